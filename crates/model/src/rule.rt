@@ -1,6 +1,6 @@
 // A rule, and the forms that it can have.
 ghost use mathlib.Core.Path.{_≡_};
-ghost use Rattle.model.specs.Letters.{letter as spelled};
+ghost use Rattle.model.specs.Letters.{letter as spelled, spelled-by};
 
 // How a rule takes the grades of its bodies together: the meet of all, the join of any, or one blended into the next.
 // Board text spells them A, O and L.
@@ -12,6 +12,18 @@ pub enum Form {
 }
 
 impl Form {
+    // The form that a letter spells; there is no other.
+    pub fn from_letter(letter: char) -> Option<Form>
+        ensures { λ r. ⌜ r ≡ spelled-by letter ⌝ }
+    {
+        match letter {
+            'A' => Some(Form::All),
+            'O' => Some(Form::Any),
+            'L' => Some(Form::Chain),
+            _ => None,
+        }
+    }
+
     // The byte that spells the form in board text.
     pub fn letter(self) -> u8
         ensures { λ r. ⌜ r ≡ spelled self ⌝ }

@@ -7,13 +7,21 @@ ghost use Rattle.pasts.specs.Refusals.{number as numbered};
 pub enum Refusal {
     // A table's length lies outside its limits.
     TableLength,
+    // A place that is not blank has a head or body above the statement count, or a body after an absent one.
     MalformedPlace,
+    // A statement number is 0 or above the count; a body may be 0.
     NoSuchStatement,
+    // A mark is 0 or above the rule table's length.
     NoSuchMark,
+    // Add finds its place not blank.
     PlaceTaken,
+    // Withdraw finds its place blank.
     PlaceBlank,
+    // A body follows an absent one.
     BodyAfterAbsent,
+    // Step finds no active statement.
     NothingActive,
+    // Read meets an unopened statement.
     NotOpen,
     // Too few bytes are left for the line, or its line feed is not in place.
     LineShort,
@@ -27,6 +35,7 @@ pub enum Refusal {
     Count,
     // A mark is not above that of the line before.
     MarkOrder,
+    // The buffer is shorter than the text to be written.
     BufferShort,
 }
 

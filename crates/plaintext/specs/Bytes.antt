@@ -5,6 +5,7 @@
 --     from-word line      the line from its first word on
 --     first-word line     the first word, empty where there is none
 --     after-word line     what follows it
+--     next-word line      both, and none where there is no word
 --     all-blank line      there is no word
 --     Cuts r o            the lent parts r of a text are the lists o
 use mathlib.Core.Path.{_≡_}
@@ -39,6 +40,9 @@ first-word line = take (leading in-word (from-word line)) (from-word line)
 
 abbrev pub after-word : List ℕ → List ℕ
 after-word line = drop (leading in-word (from-word line)) (from-word line)
+
+abbrev pub next-word : List ℕ → Option (List ℕ × List ℕ)
+next-word line = cond (eqb (length (first-word line)) 0) None (Some (first-word line, after-word line))
 
 abbrev pub all-blank : List ℕ → Bool
 all-blank line = eqb (leading blank line) (length line)

@@ -12,3 +12,4 @@ pub use lines::next_line;
 pub use words::is_blank;
 pub use words::next_word;
 pub use words::same_word;
+pub use words::some_word;

@@ -1,9 +1,11 @@
-// Worked examples as tests: scales, surveys and files of measured lines.
+// Worked examples as tests: scales, surveys, files of measured lines and scripts.
 #[cfg(test)]
 mod measured_lines;
 #[cfg(test)]
 mod other_scales;
 #[cfg(test)]
 mod percents;
+#[cfg(test)]
+mod scripts;
 #[cfg(test)]
 mod survey_tables;

@@ -1,0 +1,9 @@
+pub mod Turns
+pub mod Any
+pub mod Told
+pub mod Taken
+pub mod Spread
+pub mod Fallen
+pub mod Exits
+pub mod Checks
+pub mod Logged

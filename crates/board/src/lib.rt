@@ -1,0 +1,30 @@
+// What a board does: the calls on its two lent tables, each held to its outcome, and whole pasts of them.
+mod adding;
+mod blanks;
+mod checking;
+mod clearing;
+mod falling;
+mod finishing;
+mod leading;
+mod marking;
+mod numbered;
+mod performing;
+mod reading;
+mod replaying;
+mod stepping;
+mod telling;
+mod valuing;
+mod wanting;
+mod withdrawing;
+mod worths;
+
+pub use adding::add;
+pub use clearing::clear;
+pub use finishing::finish;
+pub use performing::perform;
+pub use reading::read;
+pub use replaying::replay;
+pub use stepping::step;
+pub use wanting::want;
+pub use withdrawing::withdraw;
+pub use worths::worth;
