@@ -14,8 +14,7 @@ use Rattle.std.specs.shelf.Lists.{countBy}
 use Rattle.std.specs.declared.option.Option.{Option}
 use Rattle.std.specs.declared.option.Option.the-variants.{Some, None}
 use Rattle.model.specs.Least.{On}
-use Rattle.model.specs.Rules.{present, holds, son, Leads}
-use Rattle.model.specs.Rules.{here, by-son}
+use Rattle.model.specs.Rules.{present, holds, son, Leads, here, by-son}
 use Rattle.model.specs.Formed.{malformed, malformed-place, body-above, gap}
 use Rattle.model.proofs.Sons.{son-on}
 use Rattle.board.specs.Flags.{flagged, some-flagged, spreads, spreading}

@@ -6,8 +6,7 @@ use Prim.Native.Nat.{ℕ, _-_}
 use lib.ListN.{length, length-set}
 use Rattle.std.proofs.shelf.Tests.{both-ways}
 use Rattle.model.specs.Least.{On}
-use Rattle.model.specs.Rules.{Leads}
-use Rattle.model.specs.Rules.{here, by-son}
+use Rattle.model.specs.Rules.{Leads, here, by-son}
 use Rattle.board.specs.Flags.{flagged}
 use Rattle.model.proofs.Sons.{son-on}
 use Rattle.board.proofs.Spread.{spread-some, all-lead, fewer, flag-more, flag-kept}
