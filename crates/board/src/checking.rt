@@ -71,10 +71,7 @@ fn any_malformed<G: Copy>(rules: &[Rule<G>], count: usize) -> bool
 }
 
 // The tables are neither empty nor too long.
-pub(crate) fn check_lengths<G: Copy>(
-    statements: &[Statement<G>],
-    rules: &[Rule<G>],
-) -> Result<(), Refusal>
+pub fn check_lengths<G: Copy>(statements: &[Statement<G>], rules: &[Rule<G>]) -> Result<(), Refusal>
     ensures { λ r. ⌜ refusal-of r ≡ first (length-checks (tables (now (statements .entry)) (now (rules .entry)))) ⌝ }
 {
     if outside(MOST_STATEMENTS, statements.len()) || outside(MOST_PLACES, rules.len()) {
@@ -84,10 +81,7 @@ pub(crate) fn check_lengths<G: Copy>(
 }
 
 // What every call checks first.
-pub(crate) fn check_tables<G: Copy>(
-    statements: &[Statement<G>],
-    rules: &[Rule<G>],
-) -> Result<(), Refusal>
+pub fn check_tables<G: Copy>(statements: &[Statement<G>], rules: &[Rule<G>]) -> Result<(), Refusal>
     ensures { λ r. ⌜ refusal-of r ≡ first (table-checks (tables (now (statements .entry)) (now (rules .entry)))) ⌝ }
 {
     check_lengths(statements, rules)?;

@@ -50,12 +50,12 @@ none-present n absent (b ∷ bs) a e =
     let gone : eqb b 0 ≡ true = not-false (eqb b 0) (sym (ap (λ c. c && not (eqb b 0)) a) ∙ e .1 .0) in
     cond-true (eqb b 0) (present bs) (b ∷ present bs) gone ∙ none-present n (eqb b 0) bs gone (e .1 .1)
 
-no-gap : (n : ℕ) (absent : Bool) (bs : List ℕ) → Unmet (body-checks n absent bs) → gap bs ≡ false
+pub no-gap : (n : ℕ) (absent : Bool) (bs : List ℕ) → Unmet (body-checks n absent bs) → gap bs ≡ false
 no-gap n absent [] e = refl
 no-gap n absent (b ∷ bs) e =
     cond-both (eqb b 0) (not (eqb (length (present bs)) 0)) (gap bs) (λ c. c ≡ false) (λ a. ap (λ l. not (eqb (length l) 0)) (none-present n (eqb b 0) bs a (e .1 .1))) (λ a. no-gap n (eqb b 0) bs (e .1 .1))
 
-none-above : (n : ℕ) (absent : Bool) (bs : List ℕ) → Unmet (body-checks n absent bs) → body-above n bs ≡ false
+pub none-above : (n : ℕ) (absent : Bool) (bs : List ℕ) → Unmet (body-checks n absent bs) → body-above n bs ≡ false
 none-above n absent [] e = refl
 none-above n absent (b ∷ bs) e = or-from (ltb n b) (body-above n bs) (e .0) (none-above n (eqb b 0) bs (e .1 .1))
 

@@ -36,7 +36,7 @@ none-after (b ∷ bs) e n low =
     let rest : length (present bs) ≡ 0 = sym (ap length (cond-true (eqb b 0) (present bs) (b ∷ present bs) gone)) ∙ e in
     (parts .0, (ap not gone, subst (λ c. Unmet (body-checks n c bs)) (sym gone) (none-after bs rest n (parts .1))))
 
-bodies-unmet : (n : ℕ) (bs : List ℕ) → body-above n bs ≡ false → gap bs ≡ false → Unmet (body-checks n false bs)
+pub bodies-unmet : (n : ℕ) (bs : List ℕ) → body-above n bs ≡ false → gap bs ≡ false → Unmet (body-checks n false bs)
 bodies-unmet n [] low flush = tt
 bodies-unmet n (b ∷ bs) low flush =
     let parts = or-parts (ltb n b) (body-above n bs) low in
