@@ -1,4 +1,6 @@
-// Worked examples as tests: scales, surveys, files of measured lines and scripts.
+// Worked examples as tests: scales, surveys, files of measured lines, scripts and board texts.
+#[cfg(test)]
+mod board_texts;
 #[cfg(test)]
 mod measured_lines;
 #[cfg(test)]

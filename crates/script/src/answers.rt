@@ -48,7 +48,7 @@ pub fn answer_line<G: Written>(
     Ok(line)
 }
 
-fn push_word(line: &mut String, word: &[u8]) -> Result<(), AllocError> {
+pub(crate) fn push_word(line: &mut String, word: &[u8]) -> Result<(), AllocError> {
     for byte in word {
         line.push(*byte as char)?;
     }

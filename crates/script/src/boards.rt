@@ -109,7 +109,7 @@ pub fn no_ramp(line: &[u8]) -> Result<(), ScriptError> {
     }
 }
 
-fn filled<T: Copy>(heap: Global, value: T, len: usize) -> Result<Vec<T>, AllocError>
+pub(crate) fn filled<T: Copy>(heap: Global, value: T, len: usize) -> Result<Vec<T>, AllocError>
     ensures { λ r. ⌜ made r (λ v. vec-items v ≡ replicate len value) ⌝ }
 {
     let mut table = Vec::new(heap);

@@ -5,8 +5,12 @@ mod desks;
 mod dumps;
 mod faults;
 mod runner;
+mod texts;
 
 pub use desks::Desk;
 pub use faults::ScriptError;
 pub use runner::Script;
+pub use runner::load_path;
 pub use runner::run_line;
+pub use runner::run_load;
+pub use texts::Loaded;

@@ -13,6 +13,10 @@ use crate::dumps::tables;
 use crate::faults::AllocScriptError;
 use crate::faults::MalformedScriptError;
 use crate::faults::ScriptError;
+use crate::texts::Loaded;
+use crate::texts::load_line;
+use crate::texts::write_line;
+use plaintext::is_blank;
 use plaintext::next_word;
 use plaintext::same_word;
 use scales::Belief;
@@ -53,7 +57,7 @@ pub enum Script {
     Belief(Desk<Belief, Listed<Belief>>),
 }
 
-// What a line prints: nothing where it is blank or begins with `#`.
+// What a line prints: nothing where it is blank or begins with `#`. A `load` line is for `run_load`, once its file was read.
 pub fn run_line(heap: Global, script: &mut Script, line: &[u8]) -> Result<String, ScriptError> {
     let (verb, rest) = next_word(line);
     if verb.is_empty() || verb[0] == b'#' {
@@ -71,6 +75,33 @@ pub fn run_line(heap: Global, script: &mut Script, line: &[u8]) -> Result<String
     }
 }
 
+// The path that a `load` line names.
+pub fn load_path(line: &[u8]) -> Option<&[u8]> {
+    let (verb, rest) = next_word(line);
+    let (path, after) = next_word(rest);
+    if same_word(verb, b"load") && !path.is_empty() && is_blank(after) {
+        Some(path)
+    } else {
+        None
+    }
+}
+
+// Loads the text of a file into the current board.
+pub fn run_load(
+    heap: Global,
+    script: &mut Script,
+    path: &[u8],
+    text: &[u8],
+) -> Result<Loaded, ScriptError> {
+    match script {
+        Script::NoBoard => Err(ScriptError::Malformed(Expected::BoardFirst)),
+        Script::Percent(desk) => Ok(load_line(heap, desk, path, text)?),
+        Script::Verdict(desk) => Ok(load_line(heap, desk, path, text)?),
+        Script::Suppliers(desk) => Ok(load_line(heap, desk, path, text)?),
+        Script::Belief(desk) => Ok(load_line(heap, desk, path, text)?),
+    }
+}
+
 fn desk_line<G: Written, V: Survey<Grade = G>>(
     heap: Global,
     desk: &mut Desk<G, V>,
@@ -84,6 +115,10 @@ fn desk_line<G: Written, V: Survey<Grade = G>>(
     if same_word(verb, b"grades") {
         end(rest)?;
         return Ok(grades(heap, desk)?);
+    }
+    if same_word(verb, b"write") {
+        end(rest)?;
+        return Ok(write_line(heap, desk)?);
     }
     let call = spelled_call(verb, rest)?;
     let answer = desk.call(&call);

@@ -33,7 +33,9 @@ impl Expected {
             Expected::GradeCode => "the code of a grade of this scale",
             Expected::FormLetter => "a form: A, O or L",
             Expected::FourBodies => "at most four bodies",
-            Expected::Verb => "board, add, withdraw, want, step, finish, read, tables or grades",
+            Expected::Verb => {
+                "board, add, withdraw, want, step, finish, read, tables, grades, load PATH or write"
+            }
             Expected::BoardFirst => "a `board` line first",
             Expected::ScaleName => "a scale: percent, verdict, suppliers or belief",
             Expected::SurveyPart => "`listed`, `ramp` or the end of the line",

@@ -1,0 +1,9 @@
+pub mod Decimal
+pub mod Faults
+pub mod Lines
+pub mod Fields
+pub mod Rows
+pub mod Boards
+pub mod Spelling
+pub mod Loads
+pub mod Promises
