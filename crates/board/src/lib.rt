@@ -1,4 +1,6 @@
 // What a board does: the calls on its two lent tables, each held to its outcome, and whole pasts of them.
+#![tactic(auto)]
+
 mod adding;
 mod blanks;
 mod chaining;

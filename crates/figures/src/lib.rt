@@ -1,4 +1,6 @@
 // The figures that the definitions are held against.
+#![tactic(auto)]
+
 ghost use Rattle.std.specs.Prelude.{◌≡◌};
 ghost use Rattle.figures.specs.Figures.{Figures, sample_rules};
 

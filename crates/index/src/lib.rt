@@ -1,5 +1,7 @@
 // How a board's rules are found without a scan, and its lowest active statement in a few words: what chains of places list, and a set of
 // numbers as binary digits.
+#![tactic(auto)]
+
 pub mod theorems;
 mod words;
 

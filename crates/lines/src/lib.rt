@@ -1,4 +1,6 @@
 // A file of measured lines: a line `ramp NEAR FAR`, then one reading a line. Blank lines and lines that begin with `#` are skipped.
+#![tactic(auto)]
+
 mod measured;
 mod report;
 mod standings;

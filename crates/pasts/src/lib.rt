@@ -1,4 +1,6 @@
 // What a board is: statements and rules in two tables, the calls on them, and what holds after every past of calls.
+#![tactic(auto)]
+
 mod call;
 mod refusal;
 mod statement;

@@ -1,4 +1,6 @@
 // Plain text in and out: lines, words and decimal numbers of a text that is lent, and bars.
+#![tactic(auto)]
+
 mod bars;
 mod classes;
 mod decimals;

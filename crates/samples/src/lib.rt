@@ -1,4 +1,6 @@
 // Worked examples as tests: scales, surveys, files of measured lines, scripts and board texts.
+#![tactic(auto)]
+
 #[cfg(test)]
 mod board_texts;
 #[cfg(test)]

@@ -1,5 +1,7 @@
 // Scales of grades. A scale is a set of grades with an order, "at or below". This crate says what every scale owes, and has five: percent,
 // verdict, supplier set, a scale turned round, and a pair of short scales.
+#![tactic(auto)]
+
 mod pair;
 mod percent;
 mod scale;

@@ -1,4 +1,6 @@
 // Scripts of calls on a board: carries a line out and answers it.
+#![tactic(auto)]
+
 mod answers;
 mod boards;
 mod desks;

@@ -1,4 +1,6 @@
 // A line of a script of calls: its fields, and the call that it spells.
+#![tactic(auto)]
+
 mod calls;
 mod fields;
 

@@ -1,4 +1,6 @@
 // Surveys: what was measured. A survey gives each statement a degree, a grade of the one scale that it names.
+#![tactic(auto)]
+
 mod joined;
 mod listed;
 mod ramp;

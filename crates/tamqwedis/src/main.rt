@@ -1,4 +1,6 @@
 // The program: carries out a script of calls on a board, grades a file of measured lines, or times itself.
+#![tactic(auto)]
+
 mod benching;
 mod input;
 mod measured;

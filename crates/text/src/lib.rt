@@ -1,4 +1,6 @@
 // How a board is spelled: `load` reads board text into two lent tables, and `write` spells a board into a lent buffer.
+#![tactic(auto)]
+
 mod decimal;
 mod faults;
 mod fields;
