@@ -15,6 +15,9 @@ GOAL = re.compile(r":\s*goal\.")
 ALIAS = re.compile(r"\bas ([^\s(){};,.\[\]:=]+)")
 BOUND = re.compile(r"[({]([^(){}:=;]+) :")
 
+# the library's, though a line of a proof begins with it
+THEIRS = {'cond-false'}
+
 # the library has a word of the name that these would get; port.py gave the last one a capital
 APART = {'bit-and': 'bit_of_and', 'bit-or': 'bit_of_or', 'Filled-of': 'filled_of'}
 
@@ -24,7 +27,7 @@ def antt_files():
 
 
 def dashed(name):
-    return '-' in name.strip('-') and re.match(r"^[A-Za-z]", name)
+    return '-' in name.strip('-') and re.match(r"^[A-Za-z]", name) and name not in THEIRS
 
 
 def declared(path):

@@ -2,7 +2,7 @@
 use Rattle.std.proofs.Common.{◌≡◌, ℕ, zero, suc, ◌+◌, ◌-◌, ◌*◌, ◌/◌, ◌%◌, ◌<◌, ◌≤◌, Bool, true, false, cond, not, ◌&&◌, ◌||◌, eqb, ltb, List, [], ◌∷◌, length, get_or, drop, replicate, sym, refl, ap, ◌∙◌, ⊎_elim, arith}
 use Rattle.std.specs.List.{AllByRecursion as All}
 use Rattle.std.proofs.lemmas.List.{ext_get_or, get_or-map, length-replicate, get_or-replicate}
-use Rattle.std.proofs.lemmas.Bool.{both_ways, cases_eq, or_parts, ltb-false, ne_eqb, cond_false}
+use Rattle.std.proofs.lemmas.Bool.{both_ways, cases_eq, or_parts, ltb-false, ne_eqb, cond-false}
 use Rattle.scales.specs.Meaning.{Meaning}
 use Rattle.model.specs.Rules.{holds, joined}
 use Rattle.model.specs.Formed.{malformed, malformed_place, body_above, gap}
@@ -20,10 +20,10 @@ use Rattle.board.proofs.Told.{entered_all_told, length_all_told, parents_positiv
 
 module _ {G : Type 0} (s : ℕ) (rs : List (Rule G)) (i : ℕ) where
   pub joined_place : (m : Meaning G) (grade : ℕ → G) (g : G) → joined m grade s g (drop i rs) ≡ joined m grade s g (drop (place (heads rs) s i) rs)
-  joined_place m grade g = at_place (λ r. r.head) s (joined m grade s g) (λ r rs n. cond_false (eqb r.head s) _ _ (ne_eqb r.head s n)) rs i
+  joined_place m grade g = at_place (λ r. r.head) s (joined m grade s g) (λ r rs n. cond-false (eqb r.head s) _ _ (ne_eqb r.head s n)) rs i
 
   pub sons_place : sons (drop i rs) s ≡ sons (drop (place (heads rs) s i) rs) s
-  sons_place = at_place (λ r. r.head) s (λ l. sons l s) (λ r rs n. cond_false (eqb r.head s) _ _ (ne_eqb r.head s n)) rs i
+  sons_place = at_place (λ r. r.head) s (λ l. sons l s) (λ r rs n. cond-false (eqb r.head s) _ _ (ne_eqb r.head s n)) rs i
 
 -- who is told matters, and not how often or in which order
 told_same : {G : Type 0} (m : Meaning G) (e : Event) (ps qs : List ℕ) (xs : List (Statement G)) → All (λ t. 1 ≤ t) ps → All (λ t. 1 ≤ t) qs → ((r : ℕ) → 1 ≤ r → holds ps r ≡ holds qs r) → all_told m e xs ps ≡ all_told m e xs qs

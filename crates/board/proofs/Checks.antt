@@ -1,6 +1,6 @@
 -- Which check of a list is met, and what a list says of which none is.
 use Rattle.std.proofs.Common.{◌≡◌, ℕ, ◌≤◌, Bool, true, false, cond, List, [], ◌∷◌, length, Some, None, Option, sym, ◌∙◌}
-use Rattle.std.proofs.lemmas.Bool.{cond-true, cond_false}
+use Rattle.std.proofs.lemmas.Bool.{cond-true, cond-false}
 use Rattle.scales.specs.Meaning.{Meaning}
 use Rattle.model.specs.Least.{On}
 use Rattle.model.specs.declared.rule.Rule.{Rule}
@@ -16,7 +16,7 @@ pub met : (b : Bool) (q : Refusal) (o : Option Refusal) → b ≡ true → Some 
 met b q o e = sym (cond-true b (Some q) o e)
 
 pub unmet : (b : Bool) (q : Refusal) (o p : Option Refusal) → b ≡ false → p ≡ o → p ≡ cond b (Some q) o
-unmet b q o p e rest = rest ∙ sym (cond_false b (Some q) o e)
+unmet b q o p e rest = rest ∙ sym (cond-false b (Some q) o e)
 
 -- the first check came alone
 pub first_alone : (c : Check) (cs : List Check) (r : Refusal) → Some r ≡ first (c ∷ []) → Some r ≡ first (c ∷ cs)

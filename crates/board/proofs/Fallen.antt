@@ -1,7 +1,7 @@
 -- One turn of the loop that lowers the flagged statements.
 use Rattle.std.proofs.Common.{◌≡◌, ℕ, ◌+◌, ◌-◌, ◌<◌, ◌≤◌, Bool, false, ◌&&◌, ◌≢◌, List, length, get_or, set, sym, refl, ap, ◌∙◌, subst, ⊎_elim, arith}
 use Rattle.std.proofs.lemmas.List.{get_or-set_same, get_or-set_other}
-use Rattle.std.proofs.lemmas.Bool.{cases_eq, cases_Bool, cond-true, cond_false, and_from, and_left, and_right}
+use Rattle.std.proofs.lemmas.Bool.{cases_eq, cases_Bool, cond-true, cond-false, and_from, and_left, and_right}
 use Rattle.scales.specs.Meaning.{Meaning}
 use Rattle.pasts.specs.Marks.{open_mark}
 use Rattle.pasts.specs.Tables.{unopened, entered}
@@ -32,7 +32,7 @@ module _ {G : Type 0} (m : Meaning G) (rs : List (Rule G)) (h : ℕ) (xs ys : Li
   falls_by same long lead each = record {
     same_count = same;
     falls = λ s on opened lead-to. each (s - 1) (omega arith) ∙ cond-true (flagged fl s && open_mark (entered m xs s).mark) _ _ (and_from (flagged fl s) (open_mark (entered m xs s).mark) (lead.every s (on.0, omega arith) lead-to) opened);
-    closed = λ s on shut. each (s - 1) (omega arith) ∙ cond_false (flagged fl s && open_mark (entered m xs s).mark) _ _ (and_right (flagged fl s) (open_mark (entered m xs s).mark) shut);
-    apart = λ s on no_way. each (s - 1) (omega arith) ∙ cond_false (flagged fl s && open_mark (entered m xs s).mark) _ _ (and_left (flagged fl s) (open_mark (entered m xs s).mark)
+    closed = λ s on shut. each (s - 1) (omega arith) ∙ cond-false (flagged fl s && open_mark (entered m xs s).mark) _ _ (and_right (flagged fl s) (open_mark (entered m xs s).mark) shut);
+    apart = λ s on no_way. each (s - 1) (omega arith) ∙ cond-false (flagged fl s && open_mark (entered m xs s).mark) _ _ (and_left (flagged fl s) (open_mark (entered m xs s).mark)
         (⊎_elim (λ e. absurd (no_way (lead.only s (on.0, omega arith) e))) (λ e. e) (cases_Bool (flagged fl s))));
   }

@@ -1,7 +1,7 @@
 -- One turn of a loop over a rule's bodies or over rules: what a recursion has before it, and after it.
 use Rattle.std.proofs.Common.{◌≡◌, ℕ, ◌+◌, ◌-◌, ◌<◌, ◌≤◌, Bool, true, false, cond, not, ◌&&◌, eqb, List, [], ◌∷◌, ◌++◌, length, get_or, drop, set, Some, None, Option, sym, refl, ap, ◌∙◌, arith}
 use Rattle.std.proofs.lemmas.List.{drop_more, drop_all}
-use Rattle.std.proofs.lemmas.Bool.{eq-eqb, ne_eqb, cond-true, cond_false}
+use Rattle.std.proofs.lemmas.Bool.{eq-eqb, ne_eqb, cond-true, cond-false}
 use Rattle.scales.specs.Meaning.{Meaning}
 use Rattle.model.specs.Rules.{present, holds, folds, joined, value}
 use Rattle.model.specs.declared.rule.Form.{Form}
@@ -22,7 +22,7 @@ module _ {X : Type 0} (xs : List X) (i : ℕ) where
     turn_taken h read e = ap F (turn x x h read) ∙ at ∙ cond-true test taken left e
 
     pub turn_left : i < length xs → x ≡ get_or xs i x → test ≡ false → F (drop i xs) ≡ left
-    turn_left h read e = ap F (turn x x h read) ∙ at ∙ cond_false test taken left e
+    turn_left h read e = ap F (turn x x h read) ∙ at ∙ cond-false test taken left e
 
 module _ (bs : List ℕ) (i : ℕ) (h : i < length bs) where
   pub present_skip : get_or bs i 0 ≡ 0 → present (drop i bs) ≡ present (drop (i + 1) bs)
@@ -31,7 +31,7 @@ module _ (bs : List ℕ) (i : ℕ) (h : i < length bs) where
 
   pub present_more : (get_or bs i 0 ≡ 0 → ⊥) → present (drop i bs) ≡ get_or bs i 0 ∷ present (drop (i + 1) bs)
   present_more n =
-      ap present (drop_more bs i 0 h) ∙ cond_false (eqb (get_or bs i 0) 0) (present (drop (i + 1) bs)) (get_or bs i 0 ∷ present (drop (i + 1) bs)) (ne_eqb (get_or bs i 0) 0 n)
+      ap present (drop_more bs i 0 h) ∙ cond-false (eqb (get_or bs i 0) 0) (present (drop (i + 1) bs)) (get_or bs i 0 ∷ present (drop (i + 1) bs)) (ne_eqb (get_or bs i 0) 0 n)
 
 pub none_left : {X Y : Type 0} (F : List X → Y) (xs : List X) (i : ℕ) → length xs ≤ i → F (drop i xs) ≡ F []
 none_left F xs i h = ap F (drop_all i xs h)

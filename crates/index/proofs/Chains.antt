@@ -1,7 +1,7 @@
 -- Places and chains.
 use Rattle.std.proofs.Common.{◌≡◌, ℕ, zero, suc, ◌+◌, ◌-◌, ◌<◌, ◌≤◌, true, false, cond, eqb, List, [], ◌∷◌, map, length, get_or, drop, set, sym, refl, ap, ◌∙◌, subst, ⊎_elim, arith, length-set}
 use Rattle.std.proofs.lemmas.List.{drop-map, drop_more, drop_all, drop-drop, get_or-drop, length-drop, get_or-set_same, get_or-set_other}
-use Rattle.std.proofs.lemmas.Bool.{eq-eqb, ne_eqb, cond-true, cond_false, cases_eq, cases_lt}
+use Rattle.std.proofs.lemmas.Bool.{eq-eqb, ne_eqb, cond-true, cond-false, cases_eq, cases_lt}
 use Rattle.index.specs.Chains.{before, place, Chained, places, Follows, out, through, ChainsList}
 
 module _ (keys : List ℕ) (s i : ℕ) where
@@ -12,7 +12,7 @@ module _ (keys : List ℕ) (s i : ℕ) where
 
   place_past : i < length keys → (get_or keys i 0 ≡ s → ⊥) → place keys s i ≡ place keys s (i + 1)
   place_past h n =
-      let z : before s (drop i keys) ≡ 1 + before s (drop (i + 1) keys) = ap (before s) (drop_more keys i 0 h) ∙ cond_false (eqb (get_or keys i 0) s) 0 (1 + before s (drop (i + 1) keys)) (ne_eqb (get_or keys i 0) s n) in
+      let z : before s (drop i keys) ≡ 1 + before s (drop (i + 1) keys) = ap (before s) (drop_more keys i 0 h) ∙ cond-false (eqb (get_or keys i 0) s) 0 (1 + before s (drop (i + 1) keys)) (ne_eqb (get_or keys i 0) s n) in
       omega arith
 
   pub place_end : length keys ≤ i → place keys s i ≡ i
@@ -49,7 +49,7 @@ before_key s (k ∷ ks) h =
     ⊎_elim
     (λ (e : k ≡ s). let z = cond-true (eqb k s) 0 (1 + before s ks) (eq-eqb k s e) in ap (λ j. get_or (k ∷ ks) j 0) z ∙ e)
     (λ (n : k ≡ s → ⊥).
-    let z = cond_false (eqb k s) 0 (1 + before s ks) (ne_eqb k s n) in
+    let z = cond-false (eqb k s) 0 (1 + before s ks) (ne_eqb k s n) in
     let y : before s (k ∷ ks) ≡ suc (before s ks) = omega arith in
     ap (λ j. get_or (k ∷ ks) j 0) y ∙ before_key s ks (omega arith))
     (cases_eq k s)
@@ -66,7 +66,7 @@ module _ {R Y : Type 0} (f : R → ℕ) (s : ℕ) (F : List R → Y) (skip : (r 
       ⊎_elim
       (λ (e : f r ≡ s). let z = cond-true (eqb (f r) s) 0 (1 + before s (map f rs)) (eq-eqb (f r) s e) in ap (λ j. F (drop j (r ∷ rs))) (sym z))
       (λ (n : f r ≡ s → ⊥).
-      let z = cond_false (eqb (f r) s) 0 (1 + before s (map f rs)) (ne_eqb (f r) s n) in
+      let z = cond-false (eqb (f r) s) 0 (1 + before s (map f rs)) (ne_eqb (f r) s n) in
       let y : before s (map f (r ∷ rs)) ≡ suc (before s (map f rs)) = omega arith in
       skip r rs n ∙ at_before rs ∙ ap (λ j. F (drop j (r ∷ rs))) (sym y))
       (cases_eq (f r) s)
@@ -99,7 +99,7 @@ module _ (keys next : List ℕ) (s : ℕ) (goes_on : (k : ℕ) → 0 ≤ k → k
       subst P list (through (omega arith) (follow fuel (i + 1) (get_or next k 0) (omega arith) on)))
       (λ (q : get_or keys i 0 ≡ s → ⊥).
       let P : List ℕ → Type 0 = Follows next (length keys) k in
-      subst P (sym (ap (places i s) (drop_more keys i 0 b) ∙ cond_false (eqb (get_or keys i 0) s) _ _ (ne_eqb (get_or keys i 0) s q))) (follow fuel (i + 1) k (omega arith) (e ∙ place_past keys s i b q)))
+      subst P (sym (ap (places i s) (drop_more keys i 0 b) ∙ cond-false (eqb (get_or keys i 0) s) _ _ (ne_eqb (get_or keys i 0) s q))) (follow fuel (i + 1) k (omega arith) (e ∙ place_past keys s i b q)))
       (cases_eq (get_or keys i 0) s))
       (λ (b : length keys ≤ i).
       let P : List ℕ → Type 0 = Follows next (length keys) k in

@@ -2,7 +2,7 @@
 use Rattle.std.proofs.Common.{◌≡◌, ℕ, zero, suc, ◌+◌, ◌*◌, ◌/◌, ◌%◌, ◌<◌, ◌≤◌, Bool, true, false, cond, not, ◌&&◌, ◌||◌, eqb, List, [], ◌∷◌, length, get_or, drop, sym, refl, ap, ◌∙◌, ⊎_elim, arith}
 use Rattle.std.specs.List.{AllByRecursion as All}
 use Rattle.std.proofs.lemmas.List.{length-map, get_or-map, drop_more, drop_all}
-use Rattle.std.proofs.lemmas.Bool.{eq-eqb, ne_eqb, eqb-true, or_from, or_left, or_right, cond-true, cond_false, cases_eq}
+use Rattle.std.proofs.lemmas.Bool.{eq-eqb, ne_eqb, eqb-true, or_from, or_left, or_right, cond-true, cond-false, cases_eq}
 use Rattle.model.specs.Rules.{present, holds, son}
 use Rattle.model.specs.declared.rule.Rule.{Rule}
 use Rattle.index.specs.Chains.{place}
@@ -11,7 +11,7 @@ use Rattle.index.proofs.Chains.{at_place}
 
 module _ (s : ℕ) (us : List Use) (i : ℕ) where
   pub users_place : users (drop i us) s ≡ users (drop (place (used us) s i) us) s
-  users_place = at_place (λ u. u.son) s (λ l. users l s) (λ u us n. cond_false (eqb u.son s) _ _ (ne_eqb u.son s n)) us i
+  users_place = at_place (λ u. u.son) s (λ l. users l s) (λ u us n. cond-false (eqb u.son s) _ _ (ne_eqb u.son s n)) us i
 
   pub users_more : (u : Use) → i < length us → get_or us i u ≡ u → u.son ≡ s → users (drop i us) s ≡ u.head ∷ users (drop (i + 1) us) s
   users_more u h read e =

@@ -1,6 +1,6 @@
 -- Which bodies of a rule are there.
 use Rattle.std.proofs.Common.{◌≡◌, ℕ, ◌<◌, true, false, not, ◌||◌, eqb, ltb, List, [], ◌∷◌, length, sym, refl, ap, ◌∙◌, subst, ⊎_elim, arith}
-use Rattle.std.proofs.lemmas.Bool.{false≢true, or_cases, or_left, or_right, eqb-true, eqb-false, eq-eqb, ne_eqb, ltb-true, lt-ltb, cond-true, cond_false, cond_both, not_from_false}
+use Rattle.std.proofs.lemmas.Bool.{false≢true, or_cases, or_left, or_right, eqb-true, eqb-false, eq-eqb, ne_eqb, ltb-true, lt-ltb, cond-true, cond-false, cond_both, not_from_false}
 use Rattle.model.specs.Rules.{present, holds}
 use Rattle.model.specs.Formed.{gap, body_above}
 use Rattle.model.specs.Pins.{OneOf, first, later, Body, AfterAbsent, absent, beyond}
@@ -18,7 +18,7 @@ held_body (b ∷ bs) t h =
     cond_both (eqb b 0) (present bs) (b ∷ present bs) (λ l. holds l t ≡ true → Body t (b ∷ bs)) (λ _ q. further (held_body bs t q)) there h
 
 held_first : (b : ℕ) (bs : List ℕ) → (b ≡ 0 → ⊥) → holds (present (b ∷ bs)) b ≡ true
-held_first b bs ne = ap (λ l. holds l b) (cond_false (eqb b 0) (present bs) (b ∷ present bs) (ne_eqb b 0 ne)) ∙ or_left (eqb b b) (holds (present bs) b) (eq-eqb b b refl)
+held_first b bs ne = ap (λ l. holds l b) (cond-false (eqb b 0) (present bs) (b ∷ present bs) (ne_eqb b 0 ne)) ∙ or_left (eqb b b) (holds (present bs) b) (eq-eqb b b refl)
 
 held_later : (t b : ℕ) (bs : List ℕ) → holds (present bs) t ≡ true → holds (present (b ∷ bs)) t ≡ true
 held_later t b bs h = cond_both (eqb b 0) (present bs) (b ∷ present bs) (λ l. holds l t ≡ true) (λ _. h) (λ _. or_right (eqb b t) (holds (present bs) t) h)
@@ -71,7 +71,7 @@ gap_some : (bs : List ℕ) → gap bs ≡ true → not (eqb (length (present bs)
 gap_some [] h = absurd (false≢true h)
 gap_some (b ∷ bs) h =
     let absent-first : eqb b 0 ≡ true → gap (b ∷ bs) ≡ true → not (eqb (length (present (b ∷ bs))) 0) ≡ true = λ z q. ap (λ l. not (eqb (length l) 0)) (cond-true (eqb b 0) (present bs) (b ∷ present bs) z) ∙ sym (cond-true (eqb b 0) (not (eqb (length (present bs)) 0)) (gap bs) z) ∙ q in
-    let there-first : eqb b 0 ≡ false → not (eqb (length (present (b ∷ bs))) 0) ≡ true = λ z. ap (λ l. not (eqb (length l) 0)) (cond_false (eqb b 0) (present bs) (b ∷ present bs) z) ∙ present_some b (b ∷ present bs) (or_left (eqb b b) (holds (present bs) b) (eq-eqb b b refl)) in
+    let there-first : eqb b 0 ≡ false → not (eqb (length (present (b ∷ bs))) 0) ≡ true = λ z. ap (λ l. not (eqb (length l) 0)) (cond-false (eqb b 0) (present bs) (b ∷ present bs) z) ∙ present_some b (b ∷ present bs) (or_left (eqb b b) (holds (present bs) b) (eq-eqb b b refl)) in
     by_test (eqb b 0) (λ z. absent-first z h) there-first
 
 pub absent_gap : {bs : List ℕ} → AfterAbsent bs → gap bs ≡ true

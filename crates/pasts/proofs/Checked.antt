@@ -1,6 +1,6 @@
 -- What the checks of an accepted call say.
 use Rattle.std.proofs.Common.{◌≡◌, ℕ, Bool, true, false, not, ◌&&◌, eqb, ltb, List, [], ◌∷◌, length, is_some, Some, None, sym, refl, ap, ◌∙◌, arith}
-use Rattle.std.proofs.lemmas.Bool.{or_parts, or_from, not-false, and_right, eqb-true, eqb-false, ltb-false, ne_eqb, le-ltb, true≢false, cond-true, cond_false, cond_both}
+use Rattle.std.proofs.lemmas.Bool.{or_parts, or_from, not-false, and_right, eqb-true, eqb-false, ltb-false, ne_eqb, le-ltb, true≢false, cond-true, cond-false, cond_both}
 use Rattle.scales.specs.Meaning.{Meaning}
 use Rattle.model.specs.Rules.{present}
 use Rattle.model.specs.Least.{On}
@@ -20,12 +20,12 @@ pub none_met : (cs : List Check) → first cs ≡ None → Unmet cs
 none_met [] e = tt
 none_met (c ∷ cs) e =
     let met : c.met ≡ true → Unmet (c ∷ cs) = λ q. absurd (true≢false (ap is_some (sym (cond-true c.met (Some c.refusal) (first cs) q) ∙ e))) in
-    let unmet : c.met ≡ false → Unmet (c ∷ cs) = λ q. (q, none_met cs (sym (cond_false c.met (Some c.refusal) (first cs) q) ∙ e)) in
+    let unmet : c.met ≡ false → Unmet (c ∷ cs) = λ q. (q, none_met cs (sym (cond-false c.met (Some c.refusal) (first cs) q) ∙ e)) in
     by_test c.met met unmet
 
 pub all_unmet : (cs : List Check) → Unmet cs → first cs ≡ None
 all_unmet [] e = refl
-all_unmet (c ∷ cs) e = cond_false c.met (Some c.refusal) (first cs) e.0 ∙ all_unmet cs e.1
+all_unmet (c ∷ cs) e = cond-false c.met (Some c.refusal) (first cs) e.0 ∙ all_unmet cs e.1
 
 pub inside_on : (n s : ℕ) → outside n s ≡ false → On n s
 inside_on n s e =

@@ -1,6 +1,6 @@
 -- A clear has one outcome, and is refused for the lengths of the tables alone.
 use Rattle.std.proofs.Common.{◌≡◌, ℕ, Bool, true, false, ◌||◌, length, Some, None, Option, sym, refl, ap, ◌∙◌, arith}
-use Rattle.std.proofs.lemmas.Bool.{or_from, cond-true, cond_false}
+use Rattle.std.proofs.lemmas.Bool.{or_from, cond-true, cond-false}
 use Rattle.scales.specs.Meaning.{Meaning}
 use Rattle.model.proofs.Cases.{by_test}
 use Rattle.pasts.specs.Refusals.{first, outside, number}
@@ -22,7 +22,7 @@ module _ {G : Type 0} where
   met t q = cond-true (beyond_limits t) (Some TableLength) None q
 
   unmet : (t : Tables G) → beyond_limits t ≡ false → first (length_checks t) ≡ None
-  unmet t q = cond_false (beyond_limits t) (Some TableLength) None q
+  unmet t q = cond-false (beyond_limits t) (Some TableLength) None q
 
   pub limits_unmet : (t : Tables G) → InLimits t → beyond_limits t ≡ false
   limits_unmet t on = or_from (outside 1024 (count t)) (outside 4096 (length t.rules)) (on_inside 1024 (count t) on.0) (on_inside 4096 (length t.rules) on.1)

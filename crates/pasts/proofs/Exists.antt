@@ -2,7 +2,7 @@
 use Rattle.std.proofs.Common.{◌≡◌, ℕ, zero, suc, ◌-◌, ◌<◌, ◌≤◌, Bool, true, false, cond, ◌&&◌, eqb, ◌⊎◌, List, [], ◌∷◌, map, length, get_or, set, Some, None, Option, sym, refl, ap, ◌∙◌, subst, subst₂, inl, inr, ⊎_elim, arith}
 use Rattle.std.specs.List.{range_with_len}
 use Rattle.std.proofs.lemmas.List.FromFn.{length-map-range_with_len, get_or-map-range_with_len}
-use Rattle.std.proofs.lemmas.Bool.{cases_Bool, cases_eq, both_ways, or_from, cond-true, cond_false, not-false, eq-eqb, ne_eqb, and_from, and_left, and_right}
+use Rattle.std.proofs.lemmas.Bool.{cases_Bool, cases_eq, both_ways, or_from, cond-true, cond-false, not-false, eq-eqb, ne_eqb, and_from, and_left, and_right}
 use Rattle.scales.specs.Meaning.{Meaning, above}
 use Rattle.scales.specs.Laws.{Laws}
 use Rattle.model.specs.Rules.{Leads}
@@ -101,7 +101,7 @@ module _ {G : Type 0} (m : Meaning G) where
             rules = refl;
             same_count = made_count t t.rules f;
             raised = ap (λ x. x.grade) (made_at t t.rules f s next.on) ∙ cond-true (eqb s s) new (grade m t s) (eq-eqb s s refl);
-            others = λ r on ne. ap (λ x. x.grade) (made_at t t.rules f r on) ∙ cond_false (eqb r s) new (grade m t r) (ne_eqb r s ne);
+            others = λ r on ne. ap (λ x. x.grade) (made_at t t.rules f r on) ∙ cond-false (eqb r s) new (grade m t r) (ne_eqb r s ne);
             marks = by_cases m s rose t u next (λ r on. ap (λ x. x.mark) (made_at t t.rules f r on));
           },
         )

@@ -1,6 +1,6 @@
 -- The first check that is met, with what the checks before it found.
 use Rattle.std.proofs.Common.{◌≡◌, ℕ, suc, ◌-◌, ◌<◌, ◌≤◌, true, false, not, ◌&&◌, ◌||◌, eqb, ◌⊎◌, List, [], ◌∷◌, ◌++◌, length, get_or, Some, sym, refl, ap, ◌∙◌, subst, inl, inr, ⊎_elim, arith}
-use Rattle.std.proofs.lemmas.Bool.{false≢true, both_ways, or_cases, or_parts, and_parts, and_cases, and_from, and_left, and_right, not-true, not-false, not_from_false, eqb-true, eqb-false, eq-eqb, ne_eqb, ltb-true, ltb-false, lt-ltb, le-ltb, cond-true, cond_false, cases_eq}
+use Rattle.std.proofs.lemmas.Bool.{false≢true, both_ways, or_cases, or_parts, and_parts, and_cases, and_from, and_left, and_right, not-true, not-false, not_from_false, eqb-true, eqb-false, eq-eqb, ne_eqb, ltb-true, ltb-false, lt-ltb, le-ltb, cond-true, cond-false, cases_eq}
 use Rattle.scales.specs.Meaning.{Meaning}
 use Rattle.model.specs.Formed.{malformed, malformed_place}
 use Rattle.model.specs.Pins.{OneOf, first as at_first, later, Body, AfterAbsent, absent, beyond, Malformed}
@@ -29,14 +29,14 @@ first_met : (cs : List Check) (r : Refusal) → first cs ≡ Some r → FirstMet
 first_met [] r e = let z : ◌≡◌ {A = ℕ} 0 1 = cc in absurd (omega arith)
 first_met (c ∷ cs) r e =
     let here : c.met ≡ true → FirstMet r (c ∷ cs) = λ q. let s : Some c.refusal ≡ Some r = sym (cond-true c.met (Some c.refusal) (first cs) q) ∙ e in inl (cc, q) in
-    by_test c.met here (λ q. inr (q, first_met cs r (sym (cond_false c.met (Some c.refusal) (first cs) q) ∙ e)))
+    by_test c.met here (λ q. inr (q, first_met cs r (sym (cond-false c.met (Some c.refusal) (first cs) q) ∙ e)))
 
 first_is : (cs : List Check) (r : Refusal) → FirstMet r cs → first cs ≡ Some r
 first_is [] r h = absurd h
 first_is (c ∷ cs) r h =
     elim h [
       | inl q ↦ cond-true c.met (Some c.refusal) (first cs) q.1 ∙ ap Some q.0
-      | inr q ↦ cond_false c.met (Some c.refusal) (first cs) q.0 ∙ first_is cs r q.1
+      | inr q ↦ cond-false c.met (Some c.refusal) (first cs) q.0 ∙ first_is cs r q.1
     ]
 
 off : (n s : ℕ) → outside n s ≡ true → On n s → ⊥

@@ -1,6 +1,6 @@
 -- What a rule put into the table changes of worths, sons and well-formedness.
 use Rattle.std.proofs.Common.{◌≡◌, ℕ, zero, suc, false, cond, ◌||◌, eqb, List, [], ◌∷◌, get_or, set, sym, refl, ap, ◌∙◌, ap₂}
-use Rattle.std.proofs.lemmas.Bool.{or_parts, or_from, cond_false}
+use Rattle.std.proofs.lemmas.Bool.{or_parts, or_from, cond-false}
 use Rattle.scales.specs.Meaning.{Meaning, Under}
 use Rattle.scales.specs.Laws.{Laws}
 use Rattle.model.specs.Rules.{present, holds, son, value, joined}
@@ -20,13 +20,13 @@ module _ {G : Type 0} where
   -- neither the rule that was there nor the one that comes has the head s
   pub put_son : (s x : ℕ) (rules : List (Rule G)) (j : ℕ) (r d : Rule G) → eqb (get_or rules j d).head s ≡ false → eqb r.head s ≡ false → son (set rules j r) s x ≡ son rules s x
   put_son s x [] j r d old new = refl
-  put_son s x (y ∷ ys) zero r d old new = cond_false (eqb r.head s) _ _ new ∙ sym (cond_false (eqb y.head s) _ _ old)
+  put_son s x (y ∷ ys) zero r d old new = cond-false (eqb r.head s) _ _ new ∙ sym (cond-false (eqb y.head s) _ _ old)
   put_son s x (y ∷ ys) (suc j) r d old new = ap (λ z. cond (eqb y.head s) (holds (present y.bodies) x || z) z) (put_son s x ys j r d old new)
 
   module _ (m : Meaning G) (g : ℕ → G) where
     pub put_joined : (s : ℕ) (rules : List (Rule G)) (j : ℕ) (r d : Rule G) (x : G) → eqb (get_or rules j d).head s ≡ false → eqb r.head s ≡ false → joined m g s x (set rules j r) ≡ joined m g s x rules
     put_joined s [] j r d x old new = refl
-    put_joined s (y ∷ ys) zero r d x old new = cond_false (eqb r.head s) _ _ new ∙ sym (cond_false (eqb y.head s) _ _ old)
+    put_joined s (y ∷ ys) zero r d x old new = cond-false (eqb r.head s) _ _ new ∙ sym (cond-false (eqb y.head s) _ _ old)
     put_joined s (y ∷ ys) (suc j) r d x old new = ap₂ (cond (eqb y.head s)) (put_joined s ys j r d (m.join x (value m g y)) old new) (put_joined s ys j r d x old new)
 
   module _ {m : Meaning G} (laws : Laws m) (g : ℕ → G) where

@@ -1,6 +1,6 @@
 -- Where a row of the table of refusals holds, the call is refused.
 use Rattle.std.proofs.Common.{◌≡◌, ℕ, zero, suc, ◌-◌, ◌<◌, Bool, true, false, ◌||◌, eqb, ◌⊎◌, List, [], ◌∷◌, length, get_or, Some, sym, ◌∙◌, subst, inl, inr, ⊎_elim, arith}
-use Rattle.std.proofs.lemmas.Bool.{both_ways, or_parts, or_left, or_right, not_from_false, eq-eqb, ne_eqb, lt-ltb, cond-true, cond_false}
+use Rattle.std.proofs.lemmas.Bool.{both_ways, or_parts, or_left, or_right, not_from_false, eq-eqb, ne_eqb, lt-ltb, cond-true, cond-false}
 use Rattle.scales.specs.Meaning.{Meaning}
 use Rattle.model.specs.Formed.{malformed, malformed_place}
 use Rattle.model.specs.Pins.{OneOf, first as at_first, later, AfterAbsent, absent, beyond}
@@ -24,7 +24,7 @@ SomeMet (c ∷ cs) = (c.met ≡ true) ⊎ SomeMet cs
 met_first : (cs : List Check) → SomeMet cs → (r : Refusal) × (first cs ≡ Some r)
 met_first [] h = absurd h
 met_first (c ∷ cs) h =
-    let unmet : c.met ≡ false → (r : Refusal) × (first (c ∷ cs) ≡ Some r) = λ q. let rest = met_first cs (⊎_elim (λ p. absurd (both_ways _ q p)) (λ p. p) h) in (rest.0, cond_false c.met (Some c.refusal) (first cs) q ∙ rest.1) in
+    let unmet : c.met ≡ false → (r : Refusal) × (first (c ∷ cs) ≡ Some r) = λ q. let rest = met_first cs (⊎_elim (λ p. absurd (both_ways _ q p)) (λ p. p) h) in (rest.0, cond-false c.met (Some c.refusal) (first cs) q ∙ rest.1) in
     by_test c.met (λ q. (c.refusal, cond-true c.met (Some c.refusal) (first cs) q)) unmet
 
 pub off_outside : (n s : ℕ) → (On n s → ⊥) → outside n s ≡ true

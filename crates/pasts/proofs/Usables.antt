@@ -1,7 +1,7 @@
 -- After every past a board within its limits takes every call that asks for what is there.
 use Rattle.std.proofs.Common.{◌≡◌, ℕ, ◌-◌, Bool, true, false, cond, not, ◌||◌, eqb, ltb, List, [], ◌∷◌, length, sym, refl, ap, ◌∙◌, subst, ⊎_elim, arith, length-set}
 use lib.ListN.{length-replicate}
-use Rattle.std.proofs.lemmas.Bool.{or_from, or_parts, ne_eqb, eq-eqb, and_cases, not-false, false≢true, eqb-true, cond-true, cond_false}
+use Rattle.std.proofs.lemmas.Bool.{or_from, or_parts, ne_eqb, eq-eqb, and_cases, not-false, false≢true, eqb-true, cond-true, cond-false}
 use Rattle.scales.specs.Meaning.{Meaning}
 use Rattle.scales.specs.Laws.{Laws}
 use Rattle.model.specs.Rules.{present}
@@ -26,7 +26,7 @@ none_after : (bs : List ℕ) → length (present bs) ≡ 0 → (n : ℕ) → bod
 none_after [] e n low = tt
 none_after (b ∷ bs) e n low =
     let parts = or_parts (ltb n b) (body_above n bs) low in
-    let gone : eqb b 0 ≡ true = by_test (eqb b 0) (λ q. q) (λ q. absurd (omega (arith, sym e ∙ ap length (cond_false (eqb b 0) (present bs) (b ∷ present bs) q)))) in
+    let gone : eqb b 0 ≡ true = by_test (eqb b 0) (λ q. q) (λ q. absurd (omega (arith, sym e ∙ ap length (cond-false (eqb b 0) (present bs) (b ∷ present bs) q)))) in
     let rest : length (present bs) ≡ 0 = sym (ap length (cond-true (eqb b 0) (present bs) (b ∷ present bs) gone)) ∙ e in
     (parts.0, (ap not gone, subst (λ c. Unmet (body_checks n c bs)) (sym gone) (none_after bs rest n parts.1)))
 
@@ -34,7 +34,7 @@ pub bodies_unmet : (n : ℕ) (bs : List ℕ) → body_above n bs ≡ false → g
 bodies_unmet n [] low flush = tt
 bodies_unmet n (b ∷ bs) low flush =
     let parts = or_parts (ltb n b) (body_above n bs) low in
-    let there : eqb b 0 ≡ false → Unmet (body_checks n (eqb b 0) bs) = λ q. subst (λ c. Unmet (body_checks n c bs)) (sym q) (bodies_unmet n bs parts.1 (sym (cond_false (eqb b 0) (not (eqb (length (present bs)) 0)) (gap bs) q) ∙ flush)) in
+    let there : eqb b 0 ≡ false → Unmet (body_checks n (eqb b 0) bs) = λ q. subst (λ c. Unmet (body_checks n c bs)) (sym q) (bodies_unmet n bs parts.1 (sym (cond-false (eqb b 0) (not (eqb (length (present bs)) 0)) (gap bs) q) ∙ flush)) in
     let absent : eqb b 0 ≡ true → Unmet (body_checks n (eqb b 0) bs) = λ q. subst (λ c. Unmet (body_checks n c bs)) (sym q) (none_after bs (eqb-true _ 0 (not-false _ (sym (cond-true (eqb b 0) (not (eqb (length (present bs)) 0)) (gap bs) q) ∙ flush))) n parts.1) in
     (parts.0, (refl, by_test (eqb b 0) absent there))
 

@@ -3,7 +3,7 @@
 --     some_up_to, up_to   where the numbers up to a limit are codes: one of them decodes, and what decodes is one of them
 use Rattle.std.specs.Prelude.{◌≡◌, ℕ, ◌≤◌, true, false, cond, leb, Some, None, nat_le}
 use Rattle.std.proofs.Common.{sym, ap, ◌∙◌, ⊎_elim, arith}
-use Rattle.std.proofs.lemmas.Bool.{leb-true, le-leb, cases_Bool, cond-true, cond_false}
+use Rattle.std.proofs.lemmas.Bool.{leb-true, le-leb, cases_Bool, cond-true, cond-false}
 use Rattle.scales.specs.Meaning.{Meaning, Same}
 use Rattle.scales.specs.Codes.{Coding, Codes}
 
@@ -35,6 +35,6 @@ module _ {G : Type 0} (most : ℕ) (of : ℕ → G) where
 
       none : leb n most ≡ false → (n ≤ most) × (of n ≡ g)
       none t =
-          let some : None ≡ Some g = sym (cond_false (nat_le n most) _ _ t) ∙ e in
+          let some : None ≡ Some g = sym (cond-false (nat_le n most) _ _ t) ∙ e in
           let no : ◌≡◌ {A = ℕ} 0 1 = cc in
           absurd (omega arith)

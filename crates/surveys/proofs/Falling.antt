@@ -6,7 +6,7 @@
 use Rattle.std.proofs.Common.{◌≡◌, ℕ, ◌+◌, ◌-◌, ◌*◌, ◌/◌, ◌<◌, ◌≤◌, min, cond, eqb, leb, ◌⊎◌, List, length, vec_items, sym, refl, ap, ◌∙◌, subst, inl, inr, add-mul, le-div_iff_mul-le, div-mul-le_self, arith}
 use native.Mathlib.Nat.{div-le_of_le-mul, lt-div-mul-add}
 use Rattle.std.proofs.lemmas.List.{get_or_past, get_or_at}
-use Rattle.std.proofs.lemmas.Bool.{cond-true, cond_false, eq-eqb, ne_eqb, le-leb, lt-leb, cases_eq, cases_lt}
+use Rattle.std.proofs.lemmas.Bool.{cond-true, cond-false, eq-eqb, ne_eqb, le-leb, lt-leb, cases_eq, cases_lt}
 use Rattle.scales.specs.Meaning.{Under}
 use Rattle.scales.specs.Percents.{points, percent, percents}
 use Rattle.surveys.specs.Tables.{entry}
@@ -14,19 +14,19 @@ use Rattle.surveys.specs.Ramps.{unmeasured, reached, graded}
 use Rattle.surveys.specs.Pins.{Measured, EntryIs, RampIs}
 
 measured : (a b r : ℕ) → Measured r → graded a b r ≡ percent (reached a b r)
-measured a b r m = cond_false _ _ _ (ne_eqb r unmeasured m)
+measured a b r m = cond-false _ _ _ (ne_eqb r unmeasured m)
 
 near_is : (a b r : ℕ) → r ≤ a → reached a b r ≡ 100
 near_is a b r h = cond-true _ _ _ (le-leb r a h)
 
 past_near : (a b r : ℕ) → a < r → reached a b r ≡ cond (leb b r) 0 (100 * (b - r) / (b - a))
-past_near a b r h = cond_false _ _ _ (lt-leb r a h)
+past_near a b r h = cond-false _ _ _ (lt-leb r a h)
 
 far_is : (a b r : ℕ) → a < r → b ≤ r → reached a b r ≡ 0
 far_is a b r h k = past_near a b r h ∙ cond-true _ _ _ (le-leb b r k)
 
 slope : (a b r : ℕ) → a < r → r < b → reached a b r ≡ 100 * (b - r) / (b - a)
-slope a b r h k = past_near a b r h ∙ cond_false _ _ _ (lt-leb b r k)
+slope a b r h k = past_near a b r h ∙ cond-false _ _ _ (lt-leb b r k)
 
 hundred : (a b r : ℕ) → a < r → r < b → 100 * (b - r) / (b - a) ≤ 100
 hundred a b r h k =
@@ -81,11 +81,11 @@ falls_is a b r s m le (inr n) =
     subst (λ g. Under percents g (graded a b r)) (sym (measured a b s n)) (subst (λ g. Under percents (percent (reached a b s)) g) (sym (measured a b r m)) (falls_measured a b r s le (cases_lt a r) (cases_lt s b)))
 
 entry_beyond : {X : Type 0} (none : X) (xs : List X) (s : ℕ) → length xs < s → entry none xs s ≡ none
-entry_beyond none xs s h = cond_false _ _ _ (ne_eqb s 0 (omega arith)) ∙ get_or_past xs (s - 1) none (omega arith)
+entry_beyond none xs s h = cond-false _ _ _ (ne_eqb s 0 (omega arith)) ∙ get_or_past xs (s - 1) none (omega arith)
 
 pub entry_is : {X : Type 0} → EntryIs X
 entry_is = record {
-  there = λ none x before after. cond_false _ _ _ (ne_eqb (length before + 1) 0 (omega arith)) ∙ get_or_at before x after none (length before + 1 - 1) (omega arith);
+  there = λ none x before after. cond-false _ _ _ (ne_eqb (length before + 1) 0 (omega arith)) ∙ get_or_at before x after none (length before + 1 - 1) (omega arith);
   at_0 = λ none xs. refl;
   beyond = entry_beyond;
 }

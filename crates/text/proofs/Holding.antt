@@ -1,7 +1,7 @@
 -- The rules that a table holds, place by place.
 use Rattle.std.proofs.Common.{◌≡◌, ℕ, suc, ◌+◌, ◌-◌, ◌*◌, ◌<◌, ◌≤◌, Bool, true, false, cond, eqb, List, [], ◌∷◌, ◌++◌, length, get_or, take, drop, sym, refl, ap, ◌∙◌, subst, arith}
 use Rattle.std.proofs.lemmas.List.{append-nil, take_more, take-append-drop, length-take-le, length-append}
-use Rattle.std.proofs.lemmas.Bool.{cond-true, cond_false, eq-eqb, ne_eqb}
+use Rattle.std.proofs.lemmas.Bool.{cond-true, cond-false, eq-eqb, ne_eqb}
 use Rattle.model.proofs.Cases.{at_test}
 use Rattle.model.specs.declared.rule.Rule.{Rule}
 use Rattle.text.specs.Boards.{held, numbered}
@@ -39,7 +39,7 @@ module _ {G : Type 0} where
     held_blank z = held_next ∙ ap (λ l. held 1 (take i rules) ++ l) (cond-true (eqb r.head 0) [] (numbered (i + 1) r ∷ []) (eq-eqb r.head 0 z)) ∙ append-nil (held 1 (take i rules))
 
     pub held_there : (r.head ≡ 0 → ⊥) → held 1 (take (i + 1) rules) ≡ held 1 (take i rules) ++ (numbered (i + 1) r ∷ [])
-    held_there z = held_next ∙ ap (λ l. held 1 (take i rules) ++ l) (cond_false (eqb r.head 0) [] (numbered (i + 1) r ∷ []) (ne_eqb r.head 0 z))
+    held_there z = held_next ∙ ap (λ l. held 1 (take i rules) ++ l) (cond-false (eqb r.head 0) [] (numbered (i + 1) r ∷ []) (ne_eqb r.head 0 z))
 
     pub held_room : (r.head ≡ 0 → ⊥) → length (held 1 (take i rules)) + 1 ≤ length (held 1 rules)
     held_room z =

@@ -1,7 +1,7 @@
 -- Checks one after another: the first that is met, and what a list says of which none is.
 use Rattle.std.proofs.Common.{◌≡◌, ℕ, Bool, true, false, cond, List, [], ◌∷◌, ◌++◌, Ok, Err, Result, sym, refl, ap, ◌∙◌, subst, arith}
 use Rattle.model.proofs.Cases.{by_test}
-use Rattle.std.proofs.lemmas.Bool.{cond-true, cond_false}
+use Rattle.std.proofs.lemmas.Bool.{cond-true, cond-false}
 use Rattle.text.specs.Faults.{Check, Unmet, judged, report, FirstMet, here, later}
 use Rattle.text.specs.declared.faults.Report.{Report}
 use Rattle.text.specs.declared.faults.Fault.{Fault}
@@ -19,12 +19,12 @@ passed (c ∷ cs) x z e =
 
 pub passes : {X : Type 0} (cs : List Check) (x : X) → Unmet cs → judged cs x ≡ Ok x
 passes [] x u = refl
-passes (c ∷ cs) x u = cond_false c.met (Err c.fault) (judged cs x) u.0 ∙ passes cs x u.1
+passes (c ∷ cs) x u = cond-false c.met (Err c.fault) (judged cs x) u.0 ∙ passes cs x u.1
 
 -- past checks of which none is met
 pub past : {Y : Type 0} (cs ds : List Check) (y : Y) → Unmet cs → judged (cs ++ ds) y ≡ judged ds y
 past [] ds y u = refl
-past (c ∷ cs) ds y u = cond_false c.met (Err c.fault) (judged (cs ++ ds) y) u.0 ∙ past cs ds y u.1
+past (c ∷ cs) ds y u = cond-false c.met (Err c.fault) (judged (cs ++ ds) y) u.0 ∙ past cs ds y u.1
 
 pub goes : {X Y : Type 0} (cs ds : List Check) (x z : X) (y : Y) → Ok z ≡ judged cs x → judged (cs ++ ds) y ≡ judged ds y
 goes cs ds x z y e = past cs ds y (passed cs x z e).0
@@ -59,4 +59,4 @@ first_met (c ∷ cs) x f e =
     let met = cond-true c.met (Err c.fault) (judged cs x) q in
     let same : c.fault ≡ f = cc (e, met) in
     subst (λ g. FirstMet (c ∷ cs) (report g)) same (here q))
-    (λ q. later q (first_met cs x f (e ∙ cond_false c.met (Err c.fault) (judged cs x) q)))
+    (λ q. later q (first_met cs x f (e ∙ cond-false c.met (Err c.fault) (judged cs x) q)))

@@ -1,7 +1,7 @@
 -- What a load does, from its checks.
 use Rattle.std.proofs.Common.{◌≡◌, ℕ, ◌≤◌, Bool, true, false, cond, ◌||◌, List, [], ◌∷◌, ◌++◌, length, take, drop, replicate, Some, None, Ok, Err, Option, Result, sym, refl, ap, ◌∙◌, subst, arith}
 use Rattle.std.proofs.lemmas.List.{append-nil}
-use Rattle.std.proofs.lemmas.Bool.{cond_false}
+use Rattle.std.proofs.lemmas.Bool.{cond-false}
 use Rattle.scales.specs.Meaning.{Meaning}
 use Rattle.scales.specs.Codes.{Coding, Codes}
 use Rattle.model.specs.declared.rule.Rule.{Rule}
@@ -98,7 +98,7 @@ module _ {G : Type 0} {m : Meaning G} {k : Coding G} (codes : Codes m k 65535) (
         count_is = (judging.passed (header_checks n p start) (rule_count start) j h).1 ∙ ap rule_count whole
 
         pub next_is : next ≡ drop 12 text
-        next_is = moved ∙ (ap (after 11) whole ∙ cond_false (cut 11 text) text (drop 12 text) header_good.0)
+        next_is = moved ∙ (ap (after 11) whole ∙ cond-false (cut 11 text) text (drop 12 text) header_good.0)
 
         rows_are : rows_checks k n p 0 2 j next ≡ rows_checks k n p 0 2 (rule_count text) (drop 12 text)
         rows_are = ap (λ (i : ℕ). rows_checks k n p 0 2 i next) count_is ∙ ap (rows_checks k n p 0 2 (rule_count text)) next_is

@@ -1,7 +1,7 @@
 -- A board holds the rules that were put on it.
 use Rattle.std.proofs.Common.{◌≡◌, ℕ, zero, suc, ◌+◌, ◌-◌, ◌<◌, ◌≤◌, Bool, true, false, cond, eqb, ◌⊎◌, List, [], ◌∷◌, ◌++◌, length, get_or, set, replicate, sym, refl, ap, ◌∙◌, subst, inl, inr, ⊎_elim, arith}
 use Rattle.std.proofs.lemmas.List.{append_assoc, append-nil, length-set, length-replicate, get_or-set_other, get_or-replicate, get_or_past}
-use Rattle.std.proofs.lemmas.Bool.{cond-true, cond_false, eq-eqb, ne_eqb, cases_lt}
+use Rattle.std.proofs.lemmas.Bool.{cond-true, cond-false, eq-eqb, ne_eqb, cases_lt}
 use Rattle.scales.specs.Meaning.{Meaning}
 use Rattle.model.specs.declared.rule.Rule.{Rule}
 use Rattle.pasts.specs.Tables.{blank}
@@ -27,7 +27,7 @@ module _ {G : Type 0} (m : Meaning G) where
   held_set k zero (q ∷ rs) r b h z =
       let rest = blank_held (suc k) rs (λ j l. b (suc j) (omega arith)) in
       let i : k ≡ 0 + k = omega arith in
-      cond_false (eqb r.head 0) (held (suc k) rs) (numbered k r ∷ held (suc k) rs) (ne_eqb r.head 0 z) ∙ (ap (λ l. numbered k r ∷ l) rest ∙ (ap (λ (j : ℕ). numbered j r ∷ []) i ∙ ap (λ l. l ++ (numbered (0 + k) r ∷ [])) (sym (blank_held k (q ∷ rs) b))))
+      cond-false (eqb r.head 0) (held (suc k) rs) (numbered k r ∷ held (suc k) rs) (ne_eqb r.head 0 z) ∙ (ap (λ l. numbered k r ∷ l) rest ∙ (ap (λ (j : ℕ). numbered j r ∷ []) i ∙ ap (λ l. l ++ (numbered (0 + k) r ∷ [])) (sym (blank_held k (q ∷ rs) b))))
   held_set k (suc i) (q ∷ rs) r b h z =
       let e : i + suc k ≡ suc i + k = omega arith in
       ap (λ l. cond (eqb q.head 0) l (numbered k q ∷ l)) (held_set (suc k) i rs r (λ j l. b (suc j) (omega arith)) (omega arith) z ∙ ap (λ (j : ℕ). held (suc k) rs ++ (numbered j r ∷ [])) e)

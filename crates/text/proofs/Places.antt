@@ -1,7 +1,7 @@
 -- A line at a place of a text.
 use Rattle.std.proofs.Common.{◌≡◌, ℕ, ◌+◌, ◌-◌, ◌<◌, ◌≤◌, Bool, true, false, cond, not, ◌||◌, eqb, leb, List, [], ◌∷◌, length, get_or, take, drop, Some, None, Ok, sym, refl, ap, ◌∙◌, arith}
 use Rattle.std.proofs.lemmas.List.{length-drop, get_or-drop, length-take-le}
-use Rattle.std.proofs.lemmas.Bool.{le-leb, lt-leb, ne_eqb, eq-eqb, or_left, or_right, or_from, not_from_true, not_from_false, cond-true, cond_false, leb-false, or_parts}
+use Rattle.std.proofs.lemmas.Bool.{le-leb, lt-leb, ne_eqb, eq-eqb, or_left, or_right, or_from, not_from_true, not_from_false, cond-true, cond-false, leb-false, or_parts}
 use Rattle.text.specs.Faults.{judged}
 use Rattle.text.specs.Lines.{cut, line, after}
 use Rattle.text.specs.Rows.{whole_check}
@@ -27,10 +27,10 @@ pub stays_cut : (rest : List ℕ) (width : ℕ) → cut width rest ≡ true → 
 stays_cut rest width e = sym (cond-true (cut width rest) rest (drop (width + 1) rest) e)
 
 pub some_whole : (rest bytes : List ℕ) (width : ℕ) → cut width rest ≡ false → bytes ≡ take width rest → Some bytes ≡ line width rest
-some_whole rest bytes width e b = ap Some b ∙ sym (cond_false (cut width rest) None (Some (take width rest)) e)
+some_whole rest bytes width e b = ap Some b ∙ sym (cond-false (cut width rest) None (Some (take width rest)) e)
 
 pub goes_whole : (rest left : List ℕ) (width : ℕ) → cut width rest ≡ false → left ≡ drop (width + 1) rest → left ≡ after width rest
-goes_whole rest left width e d = d ∙ sym (cond_false (cut width rest) rest (drop (width + 1) rest) e)
+goes_whole rest left width e d = d ∙ sym (cond-false (cut width rest) rest (drop (width + 1) rest) e)
 
 -- a line that was taken has its width
 pub taken_is : (width number : ℕ) (rest bytes : List ℕ) → Ok bytes ≡ judged (whole_check width number rest ∷ []) (take width rest) → (bytes ≡ take width rest) × (length bytes ≡ width) × (cut width rest ≡ false)

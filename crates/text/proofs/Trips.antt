@@ -2,7 +2,7 @@
 use Rattle.std.proofs.Common.{◌≡◌, ℕ, suc, ◌+◌, ◌-◌, ◌*◌, ◌<◌, ◌≤◌, Bool, true, false, cond, not, ◌&&◌, ◌||◌, eqb, ltb, List, [], ◌∷◌, ◌++◌, length, get_or, take, drop, Some, None, Ok, Err, Option, Result, sym, refl, ap, ◌∙◌, subst, arith}
 use Rattle.std.specs.List.{flat_map}
 use Rattle.std.proofs.lemmas.List.{take_at, length-append}
-use Rattle.std.proofs.lemmas.Bool.{or_parts, or_from, and_right, le-ltb, ltb-false, eqb-false, cond_false, both_ways}
+use Rattle.std.proofs.lemmas.Bool.{or_parts, or_from, and_right, le-ltb, ltb-false, eqb-false, cond-false, both_ways}
 use Rattle.scales.specs.Meaning.{Meaning}
 use Rattle.scales.specs.Laws.{Laws}
 use Rattle.scales.specs.Codes.{Coding, Codes}

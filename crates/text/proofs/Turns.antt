@@ -1,6 +1,6 @@
 -- The lines of a text, one after another.
 use Rattle.std.proofs.Common.{◌≡◌, ℕ, suc, ◌+◌, ◌-◌, ◌<◌, ◌≤◌, Bool, true, false, not, eqb, ltb, List, [], ◌∷◌, ◌++◌, length, take, drop, set, Ok, Err, sym, refl, ap, ◌∙◌, subst, arith}
-use Rattle.std.proofs.lemmas.Bool.{cond-true, cond_false, not_from_false, not_from_true, ne_eqb, eq-eqb}
+use Rattle.std.proofs.lemmas.Bool.{cond-true, cond-false, not_from_false, not_from_true, ne_eqb, eq-eqb}
 use Rattle.scales.specs.Meaning.{Meaning}
 use Rattle.scales.specs.Codes.{Coding}
 use Rattle.model.specs.Least.{On}
@@ -49,7 +49,7 @@ module _ {G : Type 0} (m : Meaning G) (k : Coding G) (n p : ℕ) where
     is = (passed (row_checks k n p last (i + 2) rest) (rule_in m k (take 37 rest)) x e).1
 
     gone : drop 38 rest ≡ next
-    gone = sym (moved ∙ cond_false (cut 37 rest) rest (drop 38 rest) unmet.0)
+    gone = sym (moved ∙ cond-false (cut 37 rest) rest (drop 38 rest) unmet.0)
 
     line_is : i + 2 + 1 ≡ i + 1 + 2
     line_is = omega arith
@@ -92,4 +92,4 @@ pub bytes_follow : (rest : List ℕ) (f : Fault) → 0 < length rest → Err f �
 bytes_follow rest f h = sym (cond-true (not (eqb (length rest) 0)) _ _ (not_from_false _ (ne_eqb (length rest) 0 (omega arith))))
 
 pub none_follow : (rest : List ℕ) (f : Fault) → length rest ≤ 0 → Ok (tt {0}) ≡ judged (check f (not (eqb (length rest) 0)) ∷ []) (tt {0})
-none_follow rest f h = sym (cond_false (not (eqb (length rest) 0)) _ _ (not_from_true _ (eq-eqb (length rest) 0 (omega arith))))
+none_follow rest f h = sym (cond-false (not (eqb (length rest) 0)) _ _ (not_from_true _ (eq-eqb (length rest) 0 (omega arith))))

@@ -9,24 +9,24 @@ use Rattle.pasts.proofs.Checked.{head_checked}
 use Rattle.board.proofs.Checks.{add_place}
 use Rattle.board.proofs.adding.add.Goals as goal
 
-pub returns-in-err-check-tables : goal.returns-in-err-check-tables
-returns-in-err-check-tables g c d =
-    rw (exit_err _ c.from-residual.result c.from-residual.ensures.1)
-    (call_unsound g.G.Scale.meaning d (tables c.args.statements.now c.args.rules.now) (Add c.args.k c.args.rule) _ c.in-err-check-tables.ensures)
+pub returns-in_err-check_tables : goal.returns-in_err-check_tables
+returns-in_err-check_tables g c d =
+    rw (exit_err _ c.from_residual.result c.from_residual.ensures.1)
+    (call_unsound g.G.Scale.meaning d (tables c.args.statements.now c.args.rules.now) (Add c.args.k c.args.rule) _ c.in_err-check_tables.ensures)
 
-pub returns-in-err-check-add : goal.returns-in-err-check-add
-returns-in-err-check-add g c d =
-    rw (exit_err _ c.from-residual-in-err-check-add.result c.from-residual-in-err-check-add.ensures.1)
-    (call_refused g.G.Scale.meaning d (tables c.args.statements.now c.args.rules.now) (Add c.args.k c.args.rule) _ c.in-ok-check-tables.ensures c.in-err-check-add.ensures)
+pub returns-in_err-check_add : goal.returns-in_err-check_add
+returns-in_err-check_add g c d =
+    rw (exit_err _ c.from_residual-in_err-check_add.result c.from_residual-in_err-check_add.ensures.1)
+    (call_refused g.G.Scale.meaning d (tables c.args.statements.now c.args.rules.now) (Add c.args.k c.args.rule) _ c.in_ok-check_tables.ensures c.in_err-check_add.ensures)
 
 pub returns : goal.returns
 returns g c d =
-    call_done g.G.Scale.meaning d (tables c.args.statements.now c.args.rules.now) (Add c.args.k c.args.rule) Added (tables c.tell.new.statements c.put.new.items) c.in-ok-check-tables.ensures c.in-ok-check-add.ensures
+    call_done g.G.Scale.meaning d (tables c.args.statements.now c.args.rules.now) (Add c.args.k c.args.rule) Added (tables c.tell.new.statements c.put.new.items) c.in_ok-check_tables.ensures c.in_ok-check_add.ensures
     (adds (record { rules = c.put.ensures; statements = c.tell.ensures }))
 
 pub put-requires : goal.put-requires
-put-requires g c = (add_place g.G.Scale.meaning (tables c.args.statements.now c.args.rules.now) c.args.k c.args.rule c.in-ok-check-add.ensures).0
+put-requires g c = (add_place g.G.Scale.meaning (tables c.args.statements.now c.args.rules.now) c.args.k c.args.rule c.in_ok-check_add.ensures).0
 
 pub tell-requires : goal.tell-requires
 tell-requires g c =
-    (head_checked g.G.Scale.meaning c.args.k c.args.rule (tables c.args.statements.now c.args.rules.now) (sym c.in-ok-check-add.ensures)).0
+    (head_checked g.G.Scale.meaning c.args.k c.args.rule (tables c.args.statements.now c.args.rules.now) (sym c.in_ok-check_add.ensures)).0

@@ -11,27 +11,27 @@ use Rattle.board.proofs.adding.check_add.Goals as goal
 pub returns-then-outside : goal.returns-then-outside
 returns-then-outside g c = met (outside (length c.args.rules.now) c.args.k) _ _ (sym c.if-outside.ensures)
 
-pub head-at-requires : goal.head-at-requires
-head-at-requires g c = (inside_on (length c.args.rules.now) c.args.k (sym c.if-outside.ensures)).0
+pub head_at-requires : goal.head_at-requires
+head_at-requires g c = (inside_on (length c.args.rules.now) c.args.k (sym c.if-outside.ensures)).0
 
-pub returns-then-head-at-ne0 : goal.returns-then-head-at-ne0
-returns-then-head-at-ne0 g c =
+pub returns-then-head_at-ne0 : goal.returns-then-head_at-ne0
+returns-then-head_at-ne0 g c =
     let head = (rule_at g.G.Scale.meaning (tables c.args.statements.now c.args.rules.now) c.args.k).head in
-    unmet (outside (length c.args.rules.now) c.args.k) _ _ _ (sym c.if-outside.ensures) (met (not (eqb head 0)) _ _ (not_from_false (eqb head 0) (ne_eqb head 0 (λ e. c.if-head-at-ne0.true (c.head-at.ensures ∙ e)))))
+    unmet (outside (length c.args.rules.now) c.args.k) _ _ _ (sym c.if-outside.ensures) (met (not (eqb head 0)) _ _ (not_from_false (eqb head 0) (ne_eqb head 0 (λ e. c.if-head_at-ne0.true (c.head_at.ensures ∙ e)))))
 
-pub returns-in-err-check-statement : goal.returns-in-err-check-statement
-returns-in-err-check-statement g c =
+pub returns-in_err-check_statement : goal.returns-in_err-check_statement
+returns-in_err-check_statement g c =
     let n = length c.args.statements.now in
     let rule = c.args.rule.now in
     let head = (rule_at g.G.Scale.meaning (tables c.args.statements.now c.args.rules.now) c.args.k).head in
-    rw (exit_err _ c.from-residual.result c.from-residual.ensures.1)
-    (unmet (outside (length c.args.rules.now) c.args.k) _ _ _ (sym c.if-outside.ensures) (unmet (not (eqb head 0)) _ _ _ (not_from_true (eqb head 0) (eq-eqb head 0 (sym c.head-at.ensures ∙ c.if-head-at-ne0.false)))
-    (first_alone (check NoSuchStatement (outside n rule.head)) (body_checks n false rule.bodies) _ c.in-err-check-statement.ensures)))
+    rw (exit_err _ c.from_residual.result c.from_residual.ensures.1)
+    (unmet (outside (length c.args.rules.now) c.args.k) _ _ _ (sym c.if-outside.ensures) (unmet (not (eqb head 0)) _ _ _ (not_from_true (eqb head 0) (eq-eqb head 0 (sym c.head_at.ensures ∙ c.if-head_at-ne0.false)))
+    (first_alone (check NoSuchStatement (outside n rule.head)) (body_checks n false rule.bodies) _ c.in_err-check_statement.ensures)))
 
 pub returns : goal.returns
 returns g c =
     let n = length c.args.statements.now in
     let rule = c.args.rule.now in
     let head = (rule_at g.G.Scale.meaning (tables c.args.statements.now c.args.rules.now) c.args.k).head in
-    unmet (outside (length c.args.rules.now) c.args.k) _ _ _ (sym c.if-outside.ensures) (unmet (not (eqb head 0)) _ _ _ (not_from_true (eqb head 0) (eq-eqb head 0 (sym c.head-at.ensures ∙ c.if-head-at-ne0.false)))
-    (first_past (check NoSuchStatement (outside n rule.head)) (body_checks n false rule.bodies) _ c.in-ok-check-statement.ensures c.check-bodies.ensures))
+    unmet (outside (length c.args.rules.now) c.args.k) _ _ _ (sym c.if-outside.ensures) (unmet (not (eqb head 0)) _ _ _ (not_from_true (eqb head 0) (eq-eqb head 0 (sym c.head_at.ensures ∙ c.if-head_at-ne0.false)))
+    (first_past (check NoSuchStatement (outside n rule.head)) (body_checks n false rule.bodies) _ c.in_ok-check_statement.ensures c.check_bodies.ensures))

@@ -38,8 +38,8 @@ loop-q-init g c =
       (λ k a b d. absurd (omega arith)),
     )
 
-pub link-rule-absent-requires : goal.link-rule-absent-requires
-link-rule-absent-requires g c =
+pub link_rule-absent-requires : goal.link_rule-absent-requires
+link_rule-absent-requires g c =
     let rs = c.args.rules.now in
     let q = c.loop-q.q - 1 in
     let r = c.index-rules-q.result in
@@ -59,15 +59,15 @@ loop-q-preserved g c =
     let n = length_used rs in
     let up : 4 * c.loop-q.q ≡ 4 * q + 4 = omega arith in
     let F : ℕ → Type 0 = λ x. Chained x (used (uses rs)) (set c.loop-q.first 0 c.loop-q.absent) c.loop-q.next in (
-      c.link-rule-absent.ensures.links (used (uses rs)) (omega arith) (λ j l. key_at rs q j r h l c.index-rules-q.is) (subst F up c.loop-q.invariant.0),
+      c.link_rule-absent.ensures.links (used (uses rs)) (omega arith) (λ j l. key_at rs q j r h l c.index-rules-q.is) (subst F up c.loop-q.invariant.0),
       (λ k l b d. ⊎_elim
-          (λ (e : k ≡ q). ap (λ x. length (get_or rs x d).bodies) e ∙ ap (λ x. length x.bodies) (get_or_default rs q d r h ∙ sym c.index-rules-q.is) ∙ c.link-rule-absent.ensures.wide)
+          (λ (e : k ≡ q). ap (λ x. length (get_or rs x d).bodies) e ∙ ap (λ x. length x.bodies) (get_or_default rs q d r h ∙ sym c.index-rules-q.is) ∙ c.link_rule-absent.ensures.wide)
           (λ (ne : k ≡ q → ⊥). c.loop-q.invariant.1 k (omega arith) b d)
           (cases_eq k q)),
     )
 
-pub returns-then-not-is-empty : goal.returns-then-not-is-empty
-returns-then-not-is-empty g c =
+pub returns-then-not-is_empty : goal.returns-then-not-is_empty
+returns-then-not-is_empty g c =
     let z : 4 * c.loop-q.q ≡ 0 = omega arith in
     let F : ℕ → Type 0 = λ x. Chained x (used (uses c.args.rules.now)) (set c.loop-q.first 0 c.loop-q.absent) c.loop-q.next in
     record {
@@ -75,12 +75,12 @@ returns-then-not-is-empty g c =
       wide = λ k h d. c.loop-q.invariant.1 k (omega arith) h d;
     }
 
-pub returns-else-not-is-empty : goal.returns-else-not-is-empty
-returns-else-not-is-empty g c =
+pub returns-else-not-is_empty : goal.returns-else-not-is_empty
+returns-else-not-is_empty g c =
     let z : 4 * c.loop-q.q ≡ 0 = omega arith in
     let first = c.loop-q.first in
     let a = c.loop-q.absent in
-    let none : length first ≡ 0 = eqb-true (length first) 0 (sym c.if-not-is-empty.ensures) in
+    let none : length first ≡ 0 = eqb-true (length first) 0 (sym c.if-not-is_empty.ensures) in
     let F : ℕ → Type 0 = λ x. Chained x (used (uses c.args.rules.now)) (set first 0 a) c.loop-q.next in
     let E : List ℕ → Type 0 = λ xs. Chained 0 (used (uses c.args.rules.now)) xs c.loop-q.next in
     record {

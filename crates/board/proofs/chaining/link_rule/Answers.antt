@@ -8,6 +8,6 @@ returns-then-head-eq0 c = record {
       let i = c.args.i in
       let none : (j : ℕ) → j < 4 → get_or keys (i + j) 0 ≡ 0 = λ j h. are j h ∙ cond-true (eqb c.args.head 0) 0 (get_or c.args.bodies.now j 0) (eq-eqb c.args.head 0 c.if-head-eq0.true) in
       let at : i ≡ i + 0 = omega arith in
-      c.link-four.ensures keys l (ap (λ k. get_or keys k 0) at ∙ none 0 (omega arith)) (none 1 (omega arith)) (none 2 (omega arith)) (none 3 (omega arith)) chained;
+      c.link_four.ensures keys l (ap (λ k. get_or keys k 0) at ∙ none 0 (omega arith)) (none 1 (omega arith)) (none 2 (omega arith)) (none 3 (omega arith)) chained;
   wide = c.told-bodies;
 }

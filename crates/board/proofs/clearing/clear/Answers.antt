@@ -6,9 +6,9 @@ use Rattle.pasts.specs.declared.statement.Statement.{Statement}
 use Rattle.board.proofs.Exits.{exit_err}
 use Rattle.board.proofs.clearing.clear.Goals as goal
 
-pub returns-in-err-check-lengths : goal.returns-in-err-check-lengths
-returns-in-err-check-lengths g c =
-    rw (exit_err _ c.from-residual.result c.from-residual.ensures.1) (kept (sym c.in-err-check-lengths.ensures))
+pub returns-in_err-check_lengths : goal.returns-in_err-check_lengths
+returns-in_err-check_lengths g c =
+    rw (exit_err _ c.from_residual.result c.from_residual.ensures.1) (kept (sym c.in_err-check_lengths.ensures))
 
 pub returns : goal.returns
 returns g c =
@@ -16,6 +16,6 @@ returns g c =
     let rs = c.args.rules.now in
     let P : List (Statement g.row.G.Denot) → List (Rule g.row.G.Denot) → Type 0 = λ ys qs. Clears g.G.Scale.meaning (tables xs rs) None (tables ys qs) in
     subst₂ P
-    (sym (c.fill.ensures ∙ ap (replicate (length xs)) c.unopened-statement.ensures))
-    (sym (c.fill-2.ensures ∙ ap (replicate (length rs)) c.blank-place.ensures))
-    (clears (sym c.in-ok-check-lengths.ensures))
+    (sym (c.fill.ensures ∙ ap (replicate (length xs)) c.unopened_statement.ensures))
+    (sym (c.fill-2.ensures ∙ ap (replicate (length rs)) c.blank_place.ensures))
+    (clears (sym c.in_ok-check_lengths.ensures))

@@ -17,39 +17,39 @@ none_flagged n s =
     (λ h. get_or_past (replicate n false) (s - 1) false (rw length-replicate h))
     (cases_lt (s - 1) n)
 
-pub chain-uses-requires : goal.chain-uses-requires
-chain-uses-requires g c =
+pub chain_uses-requires : goal.chain_uses-requires
+chain_uses-requires g c =
     let rs = c.args.rules.now in
     let n = length c.args.statements.now in
     let few = c.requires.few in
     let places = c.requires.places in
-    let long : length c.no-places-first.result ≡ 1025 = filled_length 1025 (4 * length rs) c.no-places-first.result c.no-places-first.ensures in
+    let long : length c.no_places-first.result ≡ 1025 = filled_length 1025 (4 * length rs) c.no_places-first.result c.no_places-first.ensures in
     record {
       few = c.requires.places;
       room = omega arith;
       keyed = λ k h. let l = uses_keyed n rs k (blank g.G.Scale.meaning) c.requires.formed h in omega arith;
-      empty = filled_at 1025 (4 * length rs) c.no-places-first.result c.no-places-first.ensures;
+      empty = filled_at 1025 (4 * length rs) c.no_places-first.result c.no_places-first.ensures;
     }
 
-pub flag-leading-requires : goal.flag-leading-requires
-flag-leading-requires g c =
-    let fl = c.no-flags-flags.result in
-    let long : length fl ≡ 1024 = ap length c.no-flags-flags.ensures ∙ length-replicate 1024 false in
-    let long-first : length c.no-places-first.result ≡ 1025 = filled_length 1025 (4 * length c.args.rules.now) c.no-places-first.result c.no-places-first.ensures in
+pub flag_leading-requires : goal.flag_leading-requires
+flag_leading-requires g c =
+    let fl = c.no_flags-flags.result in
+    let long : length fl ≡ 1024 = ap length c.no_flags-flags.ensures ∙ length-replicate 1024 false in
+    let long-first : length c.no_places-first.result ≡ 1025 = filled_length 1025 (4 * length c.args.rules.now) c.no_places-first.result c.no_places-first.ensures in
     let F : ℕ → Type 0 = λ n. malformed n c.args.rules.now ≡ false in record {
       on = (c.requires.on.0, omega (arith, c.requires.on.1, c.requires.few));
-      keyed = omega (arith, long-first, c.chain-uses.auto.first);
+      keyed = omega (arith, long-first, c.chain_uses.auto.first);
       few = c.requires.places;
       room = omega arith;
-      chains = c.chain-uses.ensures.chains;
-      wide = c.chain-uses.ensures.wide;
+      chains = c.chain_uses.ensures.chains;
+      wide = c.chain_uses.ensures.wide;
       long = omega arith;
       formed = subst F (sym long) (formed_more (length c.args.statements.now) 1024 c.requires.few c.args.rules.now c.requires.formed);
-      none = λ s. ap (λ l. flagged l s) c.no-flags-flags.ensures ∙ none_flagged 1024 s;
+      none = λ s. ap (λ l. flagged l s) c.no_flags-flags.ensures ∙ none_flagged 1024 s;
     }
 
 pub returns : goal.returns
 returns g c =
-    let fl = c.no-flags-flags.result in
-    let long : length fl ≡ 1024 = ap length c.no-flags-flags.ensures ∙ length-replicate 1024 false in
-    falls_by g.G.Scale.meaning c.args.rules.now c.args.head c.args.statements.now c.fall.new.statements c.flag-leading.new.flags c.fall.auto.statements (omega (arith, c.flag-leading.auto.flags, c.requires.few)) c.flag-leading.ensures c.fall.ensures
+    let fl = c.no_flags-flags.result in
+    let long : length fl ≡ 1024 = ap length c.no_flags-flags.ensures ∙ length-replicate 1024 false in
+    falls_by g.G.Scale.meaning c.args.rules.now c.args.head c.args.statements.now c.fall.new.statements c.flag_leading.new.flags c.fall.auto.statements (omega (arith, c.flag_leading.auto.flags, c.requires.few)) c.flag_leading.ensures c.fall.ensures

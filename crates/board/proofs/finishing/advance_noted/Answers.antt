@@ -8,17 +8,17 @@ use Rattle.board.proofs.Noted.{noted_set, taken_rests}
 use Rattle.board.proofs.Opened.{sons_taken}
 use Rattle.board.proofs.finishing.advance_noted.Goals as goal
 
-pub chain-worth-new-requires : goal.chain-worth-new-requires
-chain-worth-new-requires g c = record { on = omega arith; room = c.requires.index.room; chains = c.requires.index.by_head }
+pub chain_worth-new-requires : goal.chain_worth-new-requires
+chain_worth-new-requires g c = record { on = omega arith; room = c.requires.index.room; chains = c.requires.index.by_head }
 
-pub grade-of-old-requires : goal.grade-of-old-requires
-grade-of-old-requires g c = c.requires.on.0
+pub grade_of-old-requires : goal.grade_of-old-requires
+grade_of-old-requires g c = c.requires.on.0
 
 pub take-requires : goal.take-requires
 take-requires g c = c.requires.on.0
 
-pub open-once-requires : goal.open-once-requires
-open-once-requires g c =
+pub open_once-requires : goal.open_once-requires
+open_once-requires g c =
     let m = g.Grade.Scale.meaning in
     let xs = c.args.statements.now in
     record {
@@ -31,8 +31,8 @@ open-once-requires g c =
       noted = rw c.take.ensures (noted_set m c.args.words.now c.args.words.now xs (c.args.s - 1) _ c.requires.noted (λ j h. h) (λ h a. absurd (both_ways _ (taken_rests (entered m xs c.args.s).mark) a)));
     }
 
-pub tell-chain-requires : goal.tell-chain-requires
-tell-chain-requires g c = record {
+pub tell_chain-requires : goal.tell_chain-requires
+tell_chain-requires g c = record {
   named = c.requires.on.0;
   on = omega arith;
   few = c.requires.index.few;
@@ -40,5 +40,5 @@ tell-chain-requires g c = record {
   chains = c.requires.index.by_use;
   wide = c.requires.index.wide;
   long = omega arith;
-  noted = c.open-once.ensures.noted;
+  noted = c.open_once.ensures.noted;
 }

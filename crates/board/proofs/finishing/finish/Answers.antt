@@ -6,16 +6,16 @@ use Rattle.pasts.proofs.Outcomes.{call_unsound, finish_done}
 use Rattle.board.proofs.Exits.{exit_err}
 use Rattle.board.proofs.finishing.finish.Goals as goal
 
-pub returns-in-err-check-tables : goal.returns-in-err-check-tables
-returns-in-err-check-tables g c =
-    rw (exit_err _ c.from-residual.result c.from-residual.ensures.1)
-    (call_unsound g.Grade.Scale.meaning (g.V.Survey.degrees c.args.survey.now) (tables c.args.statements.now c.args.rules.now) Finish _ c.in-err-check-tables.ensures)
+pub returns-in_err-check_tables : goal.returns-in_err-check_tables
+returns-in_err-check_tables g c =
+    rw (exit_err _ c.from_residual.result c.from_residual.ensures.1)
+    (call_unsound g.Grade.Scale.meaning (g.V.Survey.degrees c.args.survey.now) (tables c.args.statements.now c.args.rules.now) Finish _ c.in_err-check_tables.ensures)
 
 pub returns : goal.returns
 returns g c =
-    finish_done g.Grade.Scale.meaning (g.V.Survey.degrees c.args.survey.now) (tables c.args.statements.now c.args.rules.now) c.run-indexed.result (tables c.run-indexed.new.statements c.args.rules.now) c.in-ok-check-tables.ensures c.run-indexed.ensures
+    finish_done g.Grade.Scale.meaning (g.V.Survey.degrees c.args.survey.now) (tables c.args.statements.now c.args.rules.now) c.run_indexed.result (tables c.run_indexed.new.statements c.args.rules.now) c.in_ok-check_tables.ensures c.run_indexed.ensures
 
-pub run-indexed-requires : goal.run-indexed-requires
-run-indexed-requires g c =
-    let ok = tables_checked (tables c.args.statements.now c.args.rules.now) (sym c.in-ok-check-tables.ensures) in
+pub run_indexed-requires : goal.run_indexed-requires
+run_indexed-requires g c =
+    let ok = tables_checked (tables c.args.statements.now c.args.rules.now) (sym c.in_ok-check_tables.ensures) in
     record { few = ok.0.1; places = ok.1.1; formed = ok.2 }

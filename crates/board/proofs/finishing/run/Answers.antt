@@ -13,8 +13,8 @@ use Rattle.board.proofs.finishing.run.Goals as goal
 pub loop-s-init : goal.loop-s-init
 loop-s-init g c = (none, c.requires.noted, (λ r pos h. absurd (c.requires.none (r - 1) h)))
 
-pub advance-noted-requires : goal.advance-noted-requires
-advance-noted-requires g c =
+pub advance_noted-requires : goal.advance_noted-requires
+advance_noted-requires g c =
     let I : ℕ → Type 0 = λ n. Indexed n c.args.rules.now c.args.own.first.now c.args.own.next.now c.args.uses.first.now c.args.uses.next.now in
     let same : length c.args.statements.now ≡ length c.loop-s.statements = sym c.loop-s.auto.statements in
     record {
@@ -25,22 +25,22 @@ advance-noted-requires g c =
       before = λ h. c.loop-s.invariant.2 c.in-Some.s c.in-Some.ensures.picks.on.0 h;
     }
 
-pub overflow-add-count : goal.overflow-add-count
-overflow-add-count g c =
+pub overflow_add-count : goal.overflow_add-count
+overflow_add-count g c =
     let laws = g.met.Grade.Scale.laws in
     omega (arith, run_spent laws c.loop-s.invariant.0, measure_fits laws (tables c.args.statements.now c.args.rules.now) c.requires.few)
 
 pub loop-s-smaller : goal.loop-s-smaller
 loop-s-smaller g c =
     let d = g.V.Survey.degrees c.args.survey.now in
-    measure_falls g.met.Grade.Scale.laws d (advance_steps g.Grade.Scale.meaning d c.args.rules.now c.loop-s.statements c.in-Some.s _ c.advance-noted.new.statements c.in-Some.ensures.picks refl c.advance-noted.ensures.after)
+    measure_falls g.met.Grade.Scale.laws d (advance_steps g.Grade.Scale.meaning d c.args.rules.now c.loop-s.statements c.in-Some.s _ c.advance_noted.new.statements c.in-Some.ensures.picks refl c.advance_noted.ensures.after)
 
 pub loop-s-preserved : goal.loop-s-preserved
 loop-s-preserved g c =
-    let step = advance_steps g.Grade.Scale.meaning (g.V.Survey.degrees c.args.survey.now) c.args.rules.now c.loop-s.statements c.in-Some.s _ c.advance-noted.new.statements c.in-Some.ensures.picks refl c.advance-noted.ensures.after in (
+    let step = advance_steps g.Grade.Scale.meaning (g.V.Survey.degrees c.args.survey.now) c.args.rules.now c.loop-s.statements c.in-Some.s _ c.advance_noted.new.statements c.in-Some.ensures.picks refl c.advance_noted.ensures.after in (
       runs_more c.loop-s.invariant.0 step,
-      c.advance-noted.ensures.noted,
-      sons_stay g.Grade.Scale.meaning step (Has c.loop-s.opened) (Has c.advance-noted.new.opened) c.loop-s.invariant.2 c.advance-noted.ensures.opened,
+      c.advance_noted.ensures.noted,
+      sons_stay g.Grade.Scale.meaning step (Has c.loop-s.opened) (Has c.advance_noted.new.opened) c.loop-s.invariant.2 c.advance_noted.ensures.opened,
     )
 
 pub returns : goal.returns

@@ -5,17 +5,17 @@ use Rattle.board.proofs.Noted.{none_in}
 use Rattle.board.proofs.Chained.{heads_keyed, uses_keyed, filled_length, filled_at}
 use Rattle.board.proofs.finishing.run_indexed.Goals as goal
 
-pub chain-heads-requires : goal.chain-heads-requires
-chain-heads-requires g c =
+pub chain_heads-requires : goal.chain_heads-requires
+chain_heads-requires g c =
     let rs = c.args.rules.now in
     let n = length c.args.statements.now in
     let few : n ≤ 1024 = c.requires.few in
-    let long : length c.no-places-first.result ≡ 1025 = filled_length 1025 (length rs) c.no-places-first.result c.no-places-first.ensures in
+    let long : length c.no_places-first.result ≡ 1025 = filled_length 1025 (length rs) c.no_places-first.result c.no_places-first.ensures in
     record {
       few = c.requires.places;
       room = c.requires.places;
       keyed = λ k h. let l = heads_keyed n rs k (blank g.Grade.Scale.meaning) c.requires.formed h in omega arith;
-      empty = filled_at 1025 (length rs) c.no-places-first.result c.no-places-first.ensures;
+      empty = filled_at 1025 (length rs) c.no_places-first.result c.no_places-first.ensures;
     }
 
 pub run-requires : goal.run-requires
@@ -23,35 +23,35 @@ run-requires g c =
     let few = c.requires.few in
     let places = c.requires.places in
     let rs = c.args.rules.now in
-    let long : length c.no-places-first.result ≡ 1025 = filled_length 1025 (length rs) c.no-places-first.result c.no-places-first.ensures in
-    let long_use : length c.no-places-first-use.result ≡ 1025 = filled_length 1025 (4 * length rs) c.no-places-first-use.result c.no-places-first-use.ensures in
+    let long : length c.no_places-first.result ≡ 1025 = filled_length 1025 (length rs) c.no_places-first.result c.no_places-first.ensures in
+    let long_use : length c.no_places-first_use.result ≡ 1025 = filled_length 1025 (4 * length rs) c.no_places-first_use.result c.no_places-first_use.ensures in
     record {
       few = few;
       index = record {
         few = places;
-        keyed = omega (arith, c.chain-heads.auto.first);
-        keyed_uses = omega (arith, c.chain-uses.auto.first);
-        room = omega (arith, c.chain-heads.auto.next);
-        room_uses = omega (arith, c.chain-uses.auto.next);
-        wide = c.chain-uses.ensures.wide;
-        by_head = c.chain-heads.ensures;
-        by_use = c.chain-uses.ensures.chains;
+        keyed = omega (arith, c.chain_heads.auto.first);
+        keyed_uses = omega (arith, c.chain_uses.auto.first);
+        room = omega (arith, c.chain_heads.auto.next);
+        room_uses = omega (arith, c.chain_uses.auto.next);
+        wide = c.chain_uses.ensures.wide;
+        by_head = c.chain_heads.ensures;
+        by_use = c.chain_uses.ensures.chains;
       };
-      short = omega (arith, c.note-active.auto.words, filled_length 16 0 c.no-words-words.result c.no-words-words.ensures);
-      noted = c.note-active.ensures;
-      none = none_in c.no-words-opened.result c.no-words-opened.ensures;
+      short = omega (arith, c.note_active.auto.words, filled_length 16 0 c.no_words-words.result c.no_words-words.ensures);
+      noted = c.note_active.ensures;
+      none = none_in c.no_words-opened.result c.no_words-opened.ensures;
     }
 
-pub chain-uses-requires : goal.chain-uses-requires
-chain-uses-requires g c =
+pub chain_uses-requires : goal.chain_uses-requires
+chain_uses-requires g c =
     let rs = c.args.rules.now in
     let n = length c.args.statements.now in
     let few : n ≤ 1024 = c.requires.few in
     let places = c.requires.places in
-    let long : length c.no-places-first-use.result ≡ 1025 = filled_length 1025 (4 * length rs) c.no-places-first-use.result c.no-places-first-use.ensures in
+    let long : length c.no_places-first_use.result ≡ 1025 = filled_length 1025 (4 * length rs) c.no_places-first_use.result c.no_places-first_use.ensures in
     record {
       few = c.requires.places;
       room = omega arith;
       keyed = λ k h. let l = uses_keyed n rs k (blank g.Grade.Scale.meaning) c.requires.formed h in omega arith;
-      empty = filled_at 1025 (4 * length rs) c.no-places-first-use.result c.no-places-first-use.ensures;
+      empty = filled_at 1025 (4 * length rs) c.no_places-first_use.result c.no_places-first_use.ensures;
     }

@@ -39,13 +39,13 @@ loop-k-preserved g c =
     let k = c.loop-k.k in
     let r = c.index-rules-k.result in
     let X = c.loop-k.statements in
-    let Y = c.open-noted.new.statements in
+    let Y = c.open_noted.new.statements in
     let key = c.loop-k.invariant.2 c.loop-k-test.true in
     let head = ap (λ x. x.head) c.index-rules-k.is ∙ sym (get_or-map (λ x. x.head) rs k r 0 c.loop-k-test.true) ∙ key in
     let on = c.requires.chains.goes_on k (omega arith) (omega (arith, length-map rs (λ r. r.head))) ∙ ap (λ x. place (heads rs) x (k + 1)) key in
-    let hears = c.open-noted.ensures.hears ∙ ap (λ x. all_told m Opened X (present x.bodies)) (sym c.index-rules-k.is) in (
+    let hears = c.open_noted.ensures.hears ∙ ap (λ x. all_told m Opened X (present x.bodies)) (sym c.index-rules-k.is) in (
       ap (all_told m Opened Y) (ap (λ j. sons (drop j rs) s) on ∙ sym (sons_place s rs (k + 1))) ∙ ap (λ x. all_told m Opened x (sons (drop (k + 1) rs) s)) hears ∙ sym (all_told_append m Opened (present r.bodies) (sons (drop (k + 1) rs) s) X) ∙ sym (ap (all_told m Opened X) (sons_more rs k r c.loop-k-test.true c.index-rules-k.is s head)) ∙ c.loop-k.invariant.0,
-      c.open-noted.ensures.noted,
+      c.open_noted.ensures.noted,
       (λ h. place_key (heads rs) s (k + 1) _ on (omega (arith, length-map rs (λ r. r.head)))),
     )
 

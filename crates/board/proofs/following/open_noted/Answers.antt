@@ -14,8 +14,8 @@ loop-b-preserved g c =
     let i = c.loop-b.b-index in
     elim c.if-b-ne0.branch [
       | then-b-ne0 w ↦ (
-        ap (λ x. all_told m Opened x (present (drop (i + 1) bs))) (w.statements-is ∙ w.tell-noted.ensures.hears) ∙ sym (ap (all_told m Opened c.loop-b.statements) (present_more bs i (omega arith) w.if-b-ne0.true)) ∙ c.loop-b.invariant.0,
-        subst₂ (Noted m) (sym w.words-is) (sym w.statements-is) w.tell-noted.ensures.noted,
+        ap (λ x. all_told m Opened x (present (drop (i + 1) bs))) (w.statements-is ∙ w.tell_noted.ensures.hears) ∙ sym (ap (all_told m Opened c.loop-b.statements) (present_more bs i (omega arith) w.if-b-ne0.true)) ∙ c.loop-b.invariant.0,
+        subst₂ (Noted m) (sym w.words-is) (sym w.statements-is) w.tell_noted.ensures.noted,
       )
       | else-b-ne0 w ↦ (
         ap (λ x. all_told m Opened x (present (drop (i + 1) bs))) w.statements-is ∙ sym (ap (all_told m Opened c.loop-b.statements) (present_skip bs i (omega arith) w.if-b-ne0.false)) ∙ c.loop-b.invariant.0,

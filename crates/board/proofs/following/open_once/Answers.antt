@@ -18,7 +18,7 @@ returns-then-has g c =
 
 pub returns : goal.returns
 returns g c = record {
-  hears = c.open-chain.ensures.hears;
-  noted = c.open-chain.ensures.noted;
+  hears = c.open_chain.ensures.hears;
+  noted = c.open_chain.ensures.noted;
   opened = λ j ne h. let F : List ℕ → Type 0 = λ l. Has l j in put_only c.args.opened.now (c.args.s - 1) j ne (subst F c.insert.ensures h);
 }

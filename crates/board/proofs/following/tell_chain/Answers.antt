@@ -19,8 +19,8 @@ loop-k-init g c =
       (λ h. place_key (used us) s 0 _ start (omega (arith, length_used c.args.rules.now))),
     )
 
-pub tell-noted-requires : goal.tell-noted-requires
-tell-noted-requires g c =
+pub tell_noted-requires : goal.tell_noted-requires
+tell_noted-requires g c =
     let rs = c.args.rules.now in
     let s = c.args.s in
     let k = c.loop-k.k in
@@ -47,14 +47,14 @@ loop-k-preserved g c =
     let k = c.loop-k.k in
     let r = c.index-rules-k.result in
     let X = c.loop-k.statements in
-    let Y = c.tell-noted.new.statements in
+    let Y = c.tell_noted.new.statements in
     let t = c.loop-k-test.true in
     let key = c.loop-k.invariant.2 t in
     let u = use_by (k % 4) (get_or rs (k / 4) r) in
     let son = sym (getD_used rs k r t) ∙ key in
     let on = c.requires.chains.goes_on k (omega arith) (omega (arith, length_used rs)) ∙ ap (λ x. place (used us) x (k + 1)) key in (
-      ap (all_told m SonRose Y) (ap (λ j. users (drop j us) s) on ∙ sym (users_place s us (k + 1))) ∙ ap (λ x. all_told m SonRose x (users (drop (k + 1) us) s)) c.tell-noted.ensures.hears ∙ sym (ap (all_told m SonRose X) (users_more s us k u (omega (arith, length_uses rs)) (getD_uses rs k r u t) son)) ∙ c.loop-k.invariant.0,
-      c.tell-noted.ensures.noted,
+      ap (all_told m SonRose Y) (ap (λ j. users (drop j us) s) on ∙ sym (users_place s us (k + 1))) ∙ ap (λ x. all_told m SonRose x (users (drop (k + 1) us) s)) c.tell_noted.ensures.hears ∙ sym (ap (all_told m SonRose X) (users_more s us k u (omega (arith, length_uses rs)) (getD_uses rs k r u t) son)) ∙ c.loop-k.invariant.0,
+      c.tell_noted.ensures.noted,
       (λ h. place_key (used us) s (k + 1) _ on (omega (arith, length_used rs))),
     )
 

@@ -9,8 +9,8 @@ loop-done-init g c =
     let F : List Bool → Type 0 = λ f. Spreading c.args.rules.now c.args.head f (set c.args.queue.now 0 c.args.head) 0 1 in
     subst F (sym c.put.ensures) (spreading_first c.args.rules.now c.args.head c.args.flags.now c.args.queue.now c.requires.on c.requires.none (omega arith))
 
-pub flag-parents-waiting-requires : goal.flag-parents-waiting-requires
-flag-parents-waiting-requires g c =
+pub flag_parents-waiting-requires : goal.flag_parents-waiting-requires
+flag_parents-waiting-requires g c =
     let so = c.loop-done.invariant in
     let at = so.named c.loop-done.done c.loop-done-test.true in
     let long : length c.loop-done.flags ≡ length c.args.flags.now = omega arith in
@@ -29,12 +29,12 @@ flag-parents-waiting-requires g c =
 
 pub loop-done-preserved : goal.loop-done-preserved
 loop-done-preserved g c =
-    spreading_more c.args.rules.now c.args.head c.requires.on.0 c.loop-done.flags c.flag-parents-waiting.new.flags c.loop-done.queue c.flag-parents-waiting.new.queue c.loop-done.done c.loop-done.waiting c.flag-parents-waiting.result c.loop-done-test.true c.flag-parents-waiting.auto.flags c.loop-done.invariant c.flag-parents-waiting.ensures.grown c.flag-parents-waiting.ensures.closed
+    spreading_more c.args.rules.now c.args.head c.requires.on.0 c.loop-done.flags c.flag_parents-waiting.new.flags c.loop-done.queue c.flag_parents-waiting.new.queue c.loop-done.done c.loop-done.waiting c.flag_parents-waiting.result c.loop-done-test.true c.flag_parents-waiting.auto.flags c.loop-done.invariant c.flag_parents-waiting.ensures.grown c.flag_parents-waiting.ensures.closed
 
 pub loop-done-smaller : goal.loop-done-smaller
 loop-done-smaller g c =
     let few = c.loop-done.invariant.few in
-    let same = c.flag-parents-waiting.auto.flags in
+    let same = c.flag_parents-waiting.auto.flags in
     omega arith
 
 pub returns : goal.returns

@@ -10,7 +10,7 @@ use Rattle.index.proofs.Uses.{users_place, users_more, users_done, getD_uses, ge
 use Rattle.board.specs.Flags.{flagged, Grown}
 use Rattle.board.proofs.Spread.{grown_none, grown_more, flag_kept, fewer, head_on}
 use Rattle.board.proofs.leading.flag_parents.Goals as goal
-use Rattle.board.proofs.leading.flag_parents.Goals.{then-not-is-flagged, else-not-is-flagged}
+use Rattle.board.proofs.leading.flag_parents.Goals.{then-not-is_flagged, else-not-is_flagged}
 
 none_held : (p : ℕ) → holds [] p ≡ true → ◌≡◌ {A = ℕ} 0 1
 none_held p e = cc
@@ -25,8 +25,8 @@ loop-k-init g c =
       (λ h. place_key (used us) s 0 _ start (omega (arith, length_used c.args.rules.now))),
     )
 
-pub is-flagged-requires : goal.is-flagged-requires
-is-flagged-requires g c =
+pub is_flagged-requires : goal.is_flagged-requires
+is_flagged-requires g c =
     (use_parent c.args.s c.requires.on.0 c.args.rules.now c.loop-k.k c.index-rules-k.result c.requires.wide c.loop-k-test.true (c.loop-k.invariant.2 c.loop-k-test.true)).0
 
 pub put-requires : goal.put-requires
@@ -41,7 +41,7 @@ bounds-queue-end g c =
     let t = c.loop-k-test.true in
     let low = (use_parent c.args.s c.requires.on.0 rs k r c.requires.wide t (c.loop-k.invariant.2 t)).0 in
     let high = (head_on (length c.args.flags.now) (k / 4) r rs c.requires.formed (omega arith) (λ z. omega arith)).1 in
-    let less = fewer c.loop-k.flags ((get_or rs (k / 4) r).head - 1) (omega (arith, c.loop-k.auto.flags)) (sym c.if-not-is-flagged.ensures) in
+    let less = fewer c.loop-k.flags ((get_or rs (k / 4) r).head - 1) (omega (arith, c.loop-k.auto.flags)) (sym c.if-not-is_flagged.ensures) in
     omega (arith, c.loop-k.invariant.0.few, c.requires.fits, c.loop-k.auto.queue)
 
 pub loop-k-preserved : goal.loop-k-preserved
@@ -73,21 +73,21 @@ loop-k-preserved g c =
     (c.loop-k.invariant.1 q pos h) in
     let tail = λ (h : get_or c.args.chain.next.now k 0 < 4 * length rs). place_key (used us) s (k + 1) _ next (omega (arith, length_used rs)) in
     let Gr : List Bool → List ℕ → ℕ → Type 0 = Grown rs s c.args.flags.now c.args.queue.now c.args.waiting in
-    elim c.if-not-is-flagged.branch [
-      | then-not-is-flagged w ↦
-          let new = sym w.if-not-is-flagged.ensures in
+    elim c.if-not-is_flagged.branch [
+      | then-not-is_flagged w ↦
+          let new = sym w.if-not-is_flagged.ensures in
           let less = fewer fl (p - 1) (omega arith) new in
           let grown = grown_more rs s c.args.flags.now c.args.queue.now c.args.waiting fl c.loop-k.queue c.loop-k.end p c.loop-k.invariant.0 on parent.1 new (omega (arith, c.loop-k.invariant.0.few, c.requires.fits, c.loop-k.auto.queue)) in
           let flags = w.flags-is ∙ w.put.ensures in
-          let F : List Bool → Type 0 = λ f. Gr f c.if-not-is-flagged.queue c.if-not-is-flagged.end in (
+          let F : List Bool → Type 0 = λ f. Gr f c.if-not-is_flagged.queue c.if-not-is_flagged.end in (
             subst F (sym flags) (subst₂ (Gr (set fl (p - 1) true)) (sym w.queue-is) (sym w.end-is) grown),
-            goes c.if-not-is-flagged.flags (λ q pos f. ap (λ l. flagged l q) flags ∙ flag_kept fl p q on pos f) (ap (λ l. flagged l p) flags ∙ get_or-set_same fl (p - 1) true false (omega arith)),
+            goes c.if-not-is_flagged.flags (λ q pos f. ap (λ l. flagged l q) flags ∙ flag_kept fl p q on pos f) (ap (λ l. flagged l p) flags ∙ get_or-set_same fl (p - 1) true false (omega arith)),
             tail,
           )
-      | else-not-is-flagged w ↦
-          let F : List Bool → Type 0 = λ f. Gr f c.if-not-is-flagged.queue c.if-not-is-flagged.end in (
+      | else-not-is_flagged w ↦
+          let F : List Bool → Type 0 = λ f. Gr f c.if-not-is_flagged.queue c.if-not-is_flagged.end in (
             subst F (sym w.flags-is) (subst₂ (Gr fl) (sym w.queue-is) (sym w.end-is) c.loop-k.invariant.0),
-            goes c.if-not-is-flagged.flags (λ q pos f. ap (λ l. flagged l q) w.flags-is ∙ f) (ap (λ l. flagged l p) w.flags-is ∙ sym w.if-not-is-flagged.ensures),
+            goes c.if-not-is_flagged.flags (λ q pos f. ap (λ l. flagged l q) w.flags-is ∙ f) (ap (λ l. flagged l p) w.flags-is ∙ sym w.if-not-is_flagged.ensures),
             tail,
           )
     ]

@@ -7,16 +7,16 @@ use Rattle.board.specs.Indexed.{Noted}
 use Rattle.board.proofs.Told.{next_here}
 use Rattle.board.proofs.Noted.{rests_below, rests_over, noted_trim}
 use Rattle.board.proofs.noting.lowest_in.Goals as goal
-use Rattle.board.proofs.noting.lowest_in.Goals.{else-i-statements-via-then-i-statements+else-is-active, else-i-statements-via-else-i-statements}
+use Rattle.board.proofs.noting.lowest_in.Goals.{else-i-statements-via-then-i-statements+else-is_active, else-i-statements-via-else-i-statements}
 
-pub returns-then-is-active : goal.returns-then-is-active
-returns-then-is-active g c =
+pub returns-then-is_active : goal.returns-then-is_active
+returns-then-is_active g c =
     let m = g.G.Scale.meaning in
     let xs = c.args.statements.now in
     let q = c.args.q in
     let t = c.lowest.result in
     record {
-      found = next_here m xs (64 * q + t) c.index-statements-i.result (omega arith) c.index-statements-i.is (ap (λ y. active y.mark) c.index-statements-i.is ∙ sym c.if-is-active.ensures) (rests_below m xs c.loop-words.words q t c.loop-words.invariant c.requires.rests c.lowest.ensures (omega (arith, c.lowest.ensures, trailing_le 64 (get_or c.loop-words.words q 0))));
+      found = next_here m xs (64 * q + t) c.index-statements-i.result (omega arith) c.index-statements-i.is (ap (λ y. active y.mark) c.index-statements-i.is ∙ sym c.if-is_active.ensures) (rests_below m xs c.loop-words.words q t c.loop-words.invariant c.requires.rests c.lowest.ensures (omega (arith, c.lowest.ensures, trailing_le 64 (get_or c.loop-words.words q 0))));
       noted = c.loop-words.invariant;
     }
 
@@ -29,7 +29,7 @@ loop-words-preserved g c =
     let t = c.lowest.result in
     let idle : 64 * q + t < length xs → active (get_or xs (64 * q + t) (unopened m)).mark ≡ false = λ h.
     elim c.else-i-statements.branch [
-      | else-i-statements-via-then-i-statements+else-is-active w ↦ ap (λ y. active y.mark) (get_or_default xs (64 * q + t) (unopened m) w.index-statements-i.result h) ∙ sym w.if-is-active.ensures
+      | else-i-statements-via-then-i-statements+else-is_active w ↦ ap (λ y. active y.mark) (get_or_default xs (64 * q + t) (unopened m) w.index-statements-i.result h) ∙ sym w.if-is_active.ensures
       | else-i-statements-via-else-i-statements w ↦ absurd (omega (arith, w.if-i-statements.false))
     ] in
     let F : ℕ → Type 0 = λ v. Noted m (set ws q v) xs in

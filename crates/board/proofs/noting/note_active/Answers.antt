@@ -6,7 +6,7 @@ use Rattle.index.proofs.Digits.{put_in, put_kept}
 use Rattle.pasts.specs.Marks.{active}
 use Rattle.pasts.specs.Tables.{unopened}
 use Rattle.board.proofs.noting.note_active.Goals as goal
-use Rattle.board.proofs.noting.note_active.Goals.{then-is-active, else-is-active}
+use Rattle.board.proofs.noting.note_active.Goals.{then-is_active, else-is_active}
 
 pub loop-i-preserved : goal.loop-i-preserved
 loop-i-preserved g c k h a =
@@ -16,20 +16,20 @@ loop-i-preserved g c k h a =
     let ws = c.loop-i.words in
     let at : i < length xs = omega arith in
     let x = c.index-statements-i.result in
-    elim c.if-is-active.branch [
-      | then-is-active w ↦
+    elim c.if-is_active.branch [
+      | then-is_active w ↦
           let F : _ → Type 0 = λ v. Has v k in
           subst F (sym (w.words-is ∙ w.insert.ensures))
           (⊎_elim
           (λ (e : k ≡ i). let K : ℕ → Type 0 = Has (with ws i) in subst K (sym e) (put_in ws i (omega arith)))
           (λ n. put_kept ws i k (c.loop-i.invariant k (omega arith) a))
           (cases_eq k i))
-      | else-is-active w ↦
+      | else-is_active w ↦
           let F : _ → Type 0 = λ v. Has v k in
           subst F (sym w.words-is)
           (⊎_elim
           (λ (e : k ≡ i).
-          let idle : active (get_or xs i u).mark ≡ _ = ap (λ y. active y.mark) (sym (get_or_read xs i x at c.index-statements-i.is u)) ∙ sym w.if-is-active.ensures in
+          let idle : active (get_or xs i u).mark ≡ _ = ap (λ y. active y.mark) (sym (get_or_read xs i x at c.index-statements-i.is u)) ∙ sym w.if-is_active.ensures in
           absurd (both_ways (active (get_or xs k u).mark) (ap (λ j. active (get_or xs j u).mark) e ∙ idle) a))
           (λ n. c.loop-i.invariant k (omega arith) a)
           (cases_eq k i))

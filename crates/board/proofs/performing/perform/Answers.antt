@@ -10,10 +10,10 @@ pub returns-in-Want : goal.returns-in-Want
 returns-in-Want g c = rw (c.in-Want.is, c.say-in-Want.ensures) (c.want.ensures (g.V.Survey.degrees c.args.survey.now))
 
 pub returns-in-Step : goal.returns-in-Step
-returns-in-Step g c = rw (c.in-Step.is, c.say-stepped.ensures) c.step.ensures
+returns-in-Step g c = rw (c.in-Step.is, c.say_stepped.ensures) c.step.ensures
 
 pub returns-in-Finish : goal.returns-in-Finish
-returns-in-Finish g c = rw (c.in-Finish.is, c.say-finished.ensures) c.finish.ensures
+returns-in-Finish g c = rw (c.in-Finish.is, c.say_finished.ensures) c.finish.ensures
 
 pub returns-in-Read : goal.returns-in-Read
-returns-in-Read g c = rw (c.in-Read.is, c.say-graded.ensures) (c.read.ensures (g.V.Survey.degrees c.args.survey.now))
+returns-in-Read g c = rw (c.in-Read.is, c.say_graded.ensures) (c.read.ensures (g.V.Survey.degrees c.args.survey.now))

@@ -9,25 +9,25 @@ use Rattle.board.proofs.Exits.{exit_err}
 use Rattle.board.proofs.Checks.{few_statements, read_on}
 use Rattle.board.proofs.reading.read.Goals as goal
 
-pub returns-in-err-check-tables : goal.returns-in-err-check-tables
-returns-in-err-check-tables g c d =
-    rw (exit_err _ c.from-residual.result c.from-residual.ensures.1)
-    (call_unsound g.G.Scale.meaning d (tables c.args.statements.now c.args.rules.now) (Read c.args.s) _ c.in-err-check-tables.ensures)
+pub returns-in_err-check_tables : goal.returns-in_err-check_tables
+returns-in_err-check_tables g c d =
+    rw (exit_err _ c.from_residual.result c.from_residual.ensures.1)
+    (call_unsound g.G.Scale.meaning d (tables c.args.statements.now c.args.rules.now) (Read c.args.s) _ c.in_err-check_tables.ensures)
 
-pub returns-in-err-check-read : goal.returns-in-err-check-read
-returns-in-err-check-read g c d =
-    rw (exit_err _ c.from-residual-in-err-check-read.result c.from-residual-in-err-check-read.ensures.1)
-    (call_refused g.G.Scale.meaning d (tables c.args.statements.now c.args.rules.now) (Read c.args.s) _ c.in-ok-check-tables.ensures c.in-err-check-read.ensures)
+pub returns-in_err-check_read : goal.returns-in_err-check_read
+returns-in_err-check_read g c d =
+    rw (exit_err _ c.from_residual-in_err-check_read.result c.from_residual-in_err-check_read.ensures.1)
+    (call_refused g.G.Scale.meaning d (tables c.args.statements.now c.args.rules.now) (Read c.args.s) _ c.in_ok-check_tables.ensures c.in_err-check_read.ensures)
 
 pub returns : goal.returns
 returns g c d =
     let m = g.G.Scale.meaning in
     let t = tables c.args.statements.now c.args.rules.now in
     let P : Answer g.row.G.Denot → Type 0 = λ a. Outcome m d (Read c.args.s) t a t in
-    subst P (sym (ap₂ Graded c.grade-of-grade.ensures c.settled.ensures)) (call_done m d t (Read c.args.s) _ t c.in-ok-check-tables.ensures c.in-ok-check-read.ensures reads)
+    subst P (sym (ap₂ Graded c.grade_of-grade.ensures c.settled.ensures)) (call_done m d t (Read c.args.s) _ t c.in_ok-check_tables.ensures c.in_ok-check_read.ensures reads)
 
-pub grade-of-grade-requires : goal.grade-of-grade-requires
-grade-of-grade-requires g c = (read_on g.G.Scale.meaning (tables c.args.statements.now c.args.rules.now) c.args.s c.in-ok-check-read.ensures).0
+pub grade_of-grade-requires : goal.grade_of-grade-requires
+grade_of-grade-requires g c = (read_on g.G.Scale.meaning (tables c.args.statements.now c.args.rules.now) c.args.s c.in_ok-check_read.ensures).0
 
 pub settled-requires : goal.settled-requires
-settled-requires g c = few_statements (tables c.args.statements.now c.args.rules.now) c.in-ok-check-tables.ensures
+settled-requires g c = few_statements (tables c.args.statements.now c.args.rules.now) c.in_ok-check_tables.ensures

@@ -6,14 +6,14 @@ use Rattle.board.proofs.Taken.{advance_steps}
 use Rattle.board.proofs.Checks.{few_statements}
 use Rattle.board.proofs.stepping.step.Goals as goal
 
-pub returns-in-err-check-tables : goal.returns-in-err-check-tables
-returns-in-err-check-tables g c =
-    rw (exit_err _ c.from-residual.result c.from-residual.ensures.1)
-    (call_unsound g.Grade.Scale.meaning (g.V.Survey.degrees c.args.survey.now) (tables c.args.statements.now c.args.rules.now) Step _ c.in-err-check-tables.ensures)
+pub returns-in_err-check_tables : goal.returns-in_err-check_tables
+returns-in_err-check_tables g c =
+    rw (exit_err _ c.from_residual.result c.from_residual.ensures.1)
+    (call_unsound g.Grade.Scale.meaning (g.V.Survey.degrees c.args.survey.now) (tables c.args.statements.now c.args.rules.now) Step _ c.in_err-check_tables.ensures)
 
 pub returns-in-None : goal.returns-in-None
 returns-in-None g c =
-    step_idle g.Grade.Scale.meaning (g.V.Survey.degrees c.args.survey.now) (tables c.args.statements.now c.args.rules.now) c.in-ok-check-tables.ensures c.in-None.ensures
+    step_idle g.Grade.Scale.meaning (g.V.Survey.degrees c.args.survey.now) (tables c.args.statements.now c.args.rules.now) c.in_ok-check_tables.ensures c.in-None.ensures
 
 pub returns-in-Some : goal.returns-in-Some
 returns-in-Some g c =
@@ -21,11 +21,11 @@ returns-in-Some g c =
     let d = g.V.Survey.degrees c.args.survey.now in
     let xs = c.args.statements.now in
     let rs = c.args.rules.now in
-    step_done m d (tables xs rs) c.in-Some.s c.advance-rose.result (tables c.advance-rose.new.statements rs) c.in-ok-check-tables.ensures
+    step_done m d (tables xs rs) c.in-Some.s c.advance-rose.result (tables c.advance-rose.new.statements rs) c.in_ok-check_tables.ensures
     (advance_steps m d rs xs c.in-Some.s c.advance-rose.result c.advance-rose.new.statements c.in-Some.ensures c.advance-rose.ensures.rose c.advance-rose.ensures.after)
 
-pub next-active-requires : goal.next-active-requires
-next-active-requires g c = few_statements (tables c.args.statements.now c.args.rules.now) c.in-ok-check-tables.ensures
+pub next_active-requires : goal.next_active-requires
+next_active-requires g c = few_statements (tables c.args.statements.now c.args.rules.now) c.in_ok-check_tables.ensures
 
 pub advance-rose-requires : goal.advance-rose-requires
 advance-rose-requires g c = c.in-Some.ensures.on

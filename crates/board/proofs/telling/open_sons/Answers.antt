@@ -15,7 +15,7 @@ loop-rule-preserved g c =
     let r = c.rule-item.result in
     elim c.if-rule-s.branch [
       | then-rule-s w ↦
-          ap (λ x. all_told m Opened x (sons (drop (i + 1) rs) s)) (w.statements-is ∙ w.open-bodies.ensures) ∙ sym (all_told_append m Opened (present r.bodies) (sons (drop (i + 1) rs) s) c.loop-rule.statements) ∙ sym (ap (all_told m Opened c.loop-rule.statements) (sons_more rs i r (omega arith) c.rule-item.is s w.if-rule-s.true)) ∙ c.loop-rule.invariant
+          ap (λ x. all_told m Opened x (sons (drop (i + 1) rs) s)) (w.statements-is ∙ w.open_bodies.ensures) ∙ sym (all_told_append m Opened (present r.bodies) (sons (drop (i + 1) rs) s) c.loop-rule.statements) ∙ sym (ap (all_told m Opened c.loop-rule.statements) (sons_more rs i r (omega arith) c.rule-item.is s w.if-rule-s.true)) ∙ c.loop-rule.invariant
       | else-rule-s w ↦
           ap (λ x. all_told m Opened x (sons (drop (i + 1) rs) s)) w.statements-is ∙ sym (ap (all_told m Opened c.loop-rule.statements) (sons_skip rs i r (omega arith) c.rule-item.is s w.if-rule-s.false)) ∙ c.loop-rule.invariant
     ]

@@ -17,11 +17,11 @@ loop-b-preserved g c =
     elim c.if-b-ne0.branch [
       | then-b-ne0+in-None w ↦
           let e = present_more bs i (omega arith) w.if-b-ne0.true in
-          let now-some = w.total-is ∙ ap Some w.grade-of-next.ensures in
+          let now-some = w.total-is ∙ ap Some w.grade_of-next.ensures in
           ap (λ x. C x rest) now-some ∙ sym (ap (C None) e) ∙ ap (λ x. C x (present (drop i bs))) (sym w.in-None.is) ∙ c.loop-b.invariant
       | then-b-ne0+in-Some w ↦
           let e = present_more bs i (omega arith) w.if-b-ne0.true in
-          let now-some = w.total-is ∙ ap Some (w.combine.ensures ∙ ap (combined m c.args.form w.in-Some.g) w.grade-of-next.ensures) in
+          let now-some = w.total-is ∙ ap Some (w.combine.ensures ∙ ap (combined m c.args.form w.in-Some.g) w.grade_of-next.ensures) in
           ap (λ x. C x rest) now-some ∙ sym (ap (C (Some w.in-Some.g)) e) ∙ ap (λ x. C x (present (drop i bs))) (sym w.in-Some.is) ∙ c.loop-b.invariant
       | else-b-ne0 w ↦
           let e = present_skip bs i (omega arith) w.if-b-ne0.false in

@@ -9,20 +9,20 @@ use Rattle.board.proofs.Exits.{exit_err}
 use Rattle.board.proofs.Checks.{number_checked}
 use Rattle.board.proofs.wanting.want.Goals as goal
 
-pub returns-in-err-check-tables : goal.returns-in-err-check-tables
-returns-in-err-check-tables g c d =
-    rw (exit_err _ c.from-residual.result c.from-residual.ensures.1)
-    (call_unsound g.G.Scale.meaning d (tables c.args.statements.now c.args.rules.now) (Want c.args.s) _ c.in-err-check-tables.ensures)
+pub returns-in_err-check_tables : goal.returns-in_err-check_tables
+returns-in_err-check_tables g c d =
+    rw (exit_err _ c.from_residual.result c.from_residual.ensures.1)
+    (call_unsound g.G.Scale.meaning d (tables c.args.statements.now c.args.rules.now) (Want c.args.s) _ c.in_err-check_tables.ensures)
 
-pub returns-in-err-check-statement : goal.returns-in-err-check-statement
-returns-in-err-check-statement g c d =
-    rw (exit_err _ c.from-residual-in-err-check-statement.result c.from-residual-in-err-check-statement.ensures.1)
-    (call_refused g.G.Scale.meaning d (tables c.args.statements.now c.args.rules.now) (Want c.args.s) _ c.in-ok-check-tables.ensures c.in-err-check-statement.ensures)
+pub returns-in_err-check_statement : goal.returns-in_err-check_statement
+returns-in_err-check_statement g c d =
+    rw (exit_err _ c.from_residual-in_err-check_statement.result c.from_residual-in_err-check_statement.ensures.1)
+    (call_refused g.G.Scale.meaning d (tables c.args.statements.now c.args.rules.now) (Want c.args.s) _ c.in_ok-check_tables.ensures c.in_err-check_statement.ensures)
 
 pub returns : goal.returns
 returns g c d =
-    call_done g.G.Scale.meaning d (tables c.args.statements.now c.args.rules.now) (Want c.args.s) NowWanted (tables c.tell.new.statements c.args.rules.now) c.in-ok-check-tables.ensures c.in-ok-check-statement.ensures
+    call_done g.G.Scale.meaning d (tables c.args.statements.now c.args.rules.now) (Want c.args.s) NowWanted (tables c.tell.new.statements c.args.rules.now) c.in_ok-check_tables.ensures c.in_ok-check_statement.ensures
     (wants (record { rules = refl; statements = c.tell.ensures }))
 
 pub tell-requires : goal.tell-requires
-tell-requires g c = (number_checked NoSuchStatement _ c.args.s [] c.in-ok-check-statement.ensures).0
+tell-requires g c = (number_checked NoSuchStatement _ c.args.s [] c.in_ok-check_statement.ensures).0

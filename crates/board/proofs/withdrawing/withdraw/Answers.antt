@@ -10,26 +10,26 @@ use Rattle.board.proofs.Exits.{exit_err}
 use Rattle.board.proofs.Spread.{head_on}
 use Rattle.board.proofs.withdrawing.withdraw.Goals as goal
 
-pub returns-in-err-check-tables : goal.returns-in-err-check-tables
-returns-in-err-check-tables g c d =
-    rw (exit_err _ c.from-residual.result c.from-residual.ensures.1)
-    (call_unsound g.G.Scale.meaning d (tables c.args.statements.now c.args.rules.now) (Withdraw c.args.k) _ c.in-err-check-tables.ensures)
+pub returns-in_err-check_tables : goal.returns-in_err-check_tables
+returns-in_err-check_tables g c d =
+    rw (exit_err _ c.from_residual.result c.from_residual.ensures.1)
+    (call_unsound g.G.Scale.meaning d (tables c.args.statements.now c.args.rules.now) (Withdraw c.args.k) _ c.in_err-check_tables.ensures)
 
-pub returns-in-err-check-withdraw : goal.returns-in-err-check-withdraw
-returns-in-err-check-withdraw g c d =
-    rw (exit_err _ c.from-residual-in-err-check-withdraw.result c.from-residual-in-err-check-withdraw.ensures.1)
-    (call_refused g.G.Scale.meaning d (tables c.args.statements.now c.args.rules.now) (Withdraw c.args.k) _ c.in-ok-check-tables.ensures c.in-err-check-withdraw.ensures)
+pub returns-in_err-check_withdraw : goal.returns-in_err-check_withdraw
+returns-in_err-check_withdraw g c d =
+    rw (exit_err _ c.from_residual-in_err-check_withdraw.result c.from_residual-in_err-check_withdraw.ensures.1)
+    (call_refused g.G.Scale.meaning d (tables c.args.statements.now c.args.rules.now) (Withdraw c.args.k) _ c.in_ok-check_tables.ensures c.in_err-check_withdraw.ensures)
 
-pub fall-from-requires : goal.fall-from-requires
-fall-from-requires g c =
+pub fall_from-requires : goal.fall_from-requires
+fall_from-requires g c =
     let m = g.G.Scale.meaning in
     let t = tables c.args.statements.now c.args.rules.now in
-    let sound = tables_checked t (sym c.in-ok-check-tables.ensures) in
-    let old = withdraw_checked m c.args.k t (sym c.in-ok-check-withdraw.ensures) in
+    let sound = tables_checked t (sym c.in_ok-check_tables.ensures) in
+    let old = withdraw_checked m c.args.k t (sym c.in_ok-check_withdraw.ensures) in
     let place = old.0 in
     let F : ℕ → Type 0 = λ h. On (length c.args.statements.now) h in
     record {
-      on = subst F (sym c.head-at-head.ensures) (head_on (length c.args.statements.now) (c.args.k - 1) (blank m) c.args.rules.now sound.2 (omega arith) old.1);
+      on = subst F (sym c.head_at-head.ensures) (head_on (length c.args.statements.now) (c.args.k - 1) (blank m) c.args.rules.now sound.2 (omega arith) old.1);
       few = sound.0.1;
       places = sound.1.1;
       formed = sound.2;
@@ -40,18 +40,18 @@ returns g c d =
     let m = g.G.Scale.meaning in
     let t = tables c.args.statements.now c.args.rules.now in
     let k = c.args.k in
-    let falls = rw c.head-at-head.ensures at c.fall-from.ensures in
-    call_done m d t (Withdraw k) Withdrawn (tables c.fall-from.new.statements c.put.new.items) c.in-ok-check-tables.ensures c.in-ok-check-withdraw.ensures
+    let falls = rw c.head_at-head.ensures at c.fall_from.ensures in
+    call_done m d t (Withdraw k) Withdrawn (tables c.fall_from.new.statements c.put.new.items) c.in_ok-check_tables.ensures c.in_ok-check_withdraw.ensures
     (withdraws (record {
-      rules = c.put.ensures ∙ ap (set c.args.rules.now (k - 1)) c.blank-place.ensures;
+      rules = c.put.ensures ∙ ap (set c.args.rules.now (k - 1)) c.blank_place.ensures;
       same_count = falls.same_count;
       falls = falls.falls;
       closed = falls.closed;
       apart = falls.apart;
     }))
 
-pub head-at-head-requires : goal.head-at-head-requires
-head-at-head-requires g c = (withdraw_checked g.G.Scale.meaning c.args.k (tables c.args.statements.now c.args.rules.now) (sym c.in-ok-check-withdraw.ensures)).0.0
+pub head_at-head-requires : goal.head_at-head-requires
+head_at-head-requires g c = (withdraw_checked g.G.Scale.meaning c.args.k (tables c.args.statements.now c.args.rules.now) (sym c.in_ok-check_withdraw.ensures)).0.0
 
 pub put-requires : goal.put-requires
-put-requires g c = (withdraw_checked g.G.Scale.meaning c.args.k (tables c.args.statements.now c.args.rules.now) (sym c.in-ok-check-withdraw.ensures)).0.0
+put-requires g c = (withdraw_checked g.G.Scale.meaning c.args.k (tables c.args.statements.now c.args.rules.now) (sym c.in_ok-check_withdraw.ensures)).0.0

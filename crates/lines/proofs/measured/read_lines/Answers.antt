@@ -6,13 +6,13 @@ pub returns-then-not-fits : goal.returns-then-not-fits
 returns-then-not-fits c =
     c.loop-bytes.invariant.1 _ (failed c.classify-line.result c.in-Some.ensures.parts c.classify-line.ensures c.due.result c.if-not-fits.ensures c.due.ensures)
 
-pub returns-in-err-note : goal.returns-in-err-note
-returns-in-err-note c = search rules
+pub returns-in_err-note : goal.returns-in_err-note
+returns-in_err-note c = search rules
 
 pub loop-bytes-preserved : goal.loop-bytes-preserved
 loop-bytes-preserved c = (
   omega (arith, c.in-Some.ensures.shorter, c.loop-bytes.invariant.0),
-  λ o h. c.loop-bytes.invariant.1 o (went_on c.classify-line.result c.in-Some.ensures.parts c.classify-line.ensures _ _ o c.if-not-fits.ensures c.ends-after-ends.ensures c.in-ok-note.ensures h),
+  λ o h. c.loop-bytes.invariant.1 o (went_on c.classify-line.result c.in-Some.ensures.parts c.classify-line.ensures _ _ o c.if-not-fits.ensures c.ends_after-ends.ensures c.in_ok-note.ensures h),
 )
 
 pub returns-in-Some-ends : goal.returns-in-Some-ends

@@ -8,16 +8,16 @@ use Rattle.text.proofs.loading.check_rules.Goals as goal
 pub loop-i-init : goal.loop-i-init
 loop-i-init g c = ap (λ j. judged (rows_checks g.G.Written.coding c.args.statements c.args.places 0 2 j (drop c.args.start.at c.args.start.text.now)) (tt {0})) (all_left c.args.count)
 
-pub returns-in-err-read : goal.returns-in-err-read
-returns-in-err-read g c =
-    let p = err_from_is_err_and c.from-residual.result c.from-residual.ensures.1 in
+pub returns-in_err-read : goal.returns-in_err-read
+returns-in_err-read g c =
+    let p = err_from_is_err_and c.from_residual.result c.from_residual.ensures.1 in
     let rest = drop c.loop-i.reader.at c.loop-i.reader.text.now in
-    rw (p.1, p.2) (in_line g.G.Scale.meaning g.G.Written.coding c.args.statements c.args.places c.loop-i.last c.loop-i.i c.args.count rest _ c.loop-i-test.true c.in-err-read.ensures.read ∙ c.loop-i.invariant)
+    rw (p.1, p.2) (in_line g.G.Scale.meaning g.G.Written.coding c.args.statements c.args.places c.loop-i.last c.loop-i.i c.args.count rest _ c.loop-i-test.true c.in_err-read.ensures.read ∙ c.loop-i.invariant)
 
 pub loop-i-preserved : goal.loop-i-preserved
 loop-i-preserved g c =
     let rest = drop c.loop-i.reader.at c.loop-i.reader.text.now in
-    sym (goes_on g.G.Scale.meaning g.G.Written.coding c.args.statements c.args.places c.loop-i.last c.loop-i.i c.args.count rest _ c.in-ok-read.read c.loop-i-test.true c.in-ok-read.ensures.read c.in-ok-read.ensures.rest) ∙ c.loop-i.invariant
+    sym (goes_on g.G.Scale.meaning g.G.Written.coding c.args.statements c.args.places c.loop-i.last c.loop-i.i c.args.count rest _ c.in_ok-read.read c.loop-i-test.true c.in_ok-read.ensures.read c.in_ok-read.ensures.rest) ∙ c.loop-i.invariant
 
 pub returns-then-left-gt0 : goal.returns-then-left-gt0
 returns-then-left-gt0 g c =

@@ -31,7 +31,7 @@ loop-i-preserved g c =
     let n = c.args.statements in
     let p = length c.args.rules.now in
     let rest = drop c.loop-i.reader.at c.loop-i.reader.text.now in
-    let next = drop c.next-rule.new.reader.at c.next-rule.new.reader.text.now in
+    let next = drop c.next_rule.new.reader.at c.next_rule.new.reader.text.now in
     let read = c.in-Ok.ensures.read in
     let moved = c.in-Ok.ensures.rest in (
       sound_on m k n p c.loop-i.last c.loop-i.i c.args.count rest next c.in-Ok.read c.loop-i-test.true read moved c.loop-i.invariant.0,

@@ -6,21 +6,21 @@ use Rattle.text.proofs.Judged.{stops, after}
 use Rattle.text.proofs.Places.{taken_is}
 use Rattle.text.proofs.rows.next_rule.Goals as goal
 
-pub returns-in-err-bytes : goal.returns-in-err-bytes
-returns-in-err-bytes g c =
+pub returns-in_err-bytes : goal.returns-in_err-bytes
+returns-in_err-bytes g c =
     let rest = drop c.args.reader.now.at c.args.reader.now.text.now in
     let line = c.args.line in
     let k = g.G.Written.coding in
-    let p = err_from_is_err_and c.from-residual.result c.from-residual.ensures.1 in
+    let p = err_from_is_err_and c.from_residual.result c.from_residual.ensures.1 in
     record {
-      read = rw (p.1, p.2) (stops (whole_check 37 line rest ∷ []) (rule_checks k c.args.statements c.args.places c.args.last line (take 37 rest)) (take 37 rest) (rule_in g.G.Scale.meaning k (take 37 rest)) _ c.in-err-bytes.ensures.line);
-      rest = c.in-err-bytes.ensures.rest;
+      read = rw (p.1, p.2) (stops (whole_check 37 line rest ∷ []) (rule_checks k c.args.statements c.args.places c.args.last line (take 37 rest)) (take 37 rest) (rule_in g.G.Scale.meaning k (take 37 rest)) _ c.in_err-bytes.ensures.line);
+      rest = c.in_err-bytes.ensures.rest;
     }
 
-pub read-rule-requires : goal.read-rule-requires
-read-rule-requires g c =
+pub read_rule-requires : goal.read_rule-requires
+read_rule-requires g c =
     let rest = drop c.args.reader.now.at c.args.reader.now.text.now in
-    (taken_is 37 c.args.line rest c.in-ok-bytes.bytes.now c.in-ok-bytes.ensures.line).1
+    (taken_is 37 c.args.line rest c.in_ok-bytes.bytes.now c.in_ok-bytes.ensures.line).1
 
 pub returns : goal.returns
 returns g c =
@@ -28,12 +28,12 @@ returns g c =
     let line = c.args.line in
     let k = g.G.Written.coding in
     let m = g.G.Scale.meaning in
-    let bytes = c.in-ok-bytes.bytes.now in
-    let t = taken_is 37 line rest bytes c.in-ok-bytes.ensures.line in
+    let bytes = c.in_ok-bytes.bytes.now in
+    let t = taken_is 37 line rest bytes c.in_ok-bytes.ensures.line in
     let n = c.args.statements in
     let p = c.args.places in
     let l = c.args.last in
     record {
-      read = after (whole_check 37 line rest ∷ []) (rule_checks k n p l line (take 37 rest)) (take 37 rest) bytes (rule_in m k (take 37 rest)) c.in-ok-bytes.ensures.line (c.read-rule.ensures ∙ ap (λ b. judged (rule_checks k n p l line b) (rule_in m k b)) t.0);
-      rest = c.in-ok-bytes.ensures.rest;
+      read = after (whole_check 37 line rest ∷ []) (rule_checks k n p l line (take 37 rest)) (take 37 rest) bytes (rule_in m k (take 37 rest)) c.in_ok-bytes.ensures.line (c.read_rule.ensures ∙ ap (λ b. judged (rule_checks k n p l line b) (rule_in m k b)) t.0);
+      rest = c.in_ok-bytes.ensures.rest;
     }

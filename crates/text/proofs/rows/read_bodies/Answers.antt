@@ -2,26 +2,26 @@ use Rattle.std.proofs.lemmas.Result.{err_from_is_err_and}
 use Rattle.text.proofs.Bodies.{in_first, in_second, in_third, in_fourth, all_four}
 use Rattle.text.proofs.rows.read_bodies.Goals as goal
 
-pub returns-in-err-first : goal.returns-in-err-first
-returns-in-err-first c =
-    let p = err_from_is_err_and c.from-residual.result c.from-residual.ensures.1 in
-    rw (p.1, p.2) (in_first c.args.statements c.args.line c.args.bytes.now _ c.in-err-first.ensures)
+pub returns-in_err-first : goal.returns-in_err-first
+returns-in_err-first c =
+    let p = err_from_is_err_and c.from_residual.result c.from_residual.ensures.1 in
+    rw (p.1, p.2) (in_first c.args.statements c.args.line c.args.bytes.now _ c.in_err-first.ensures)
 
-pub returns-in-err-second : goal.returns-in-err-second
-returns-in-err-second c =
-    let p = err_from_is_err_and c.from-residual-in-err-second.result c.from-residual-in-err-second.ensures.1 in
-    rw (p.1, p.2) (in_second c.args.statements c.args.line c.args.bytes.now c.in-ok-first.first c.in-ok-first.ensures _ c.in-err-second.ensures)
+pub returns-in_err-second : goal.returns-in_err-second
+returns-in_err-second c =
+    let p = err_from_is_err_and c.from_residual-in_err-second.result c.from_residual-in_err-second.ensures.1 in
+    rw (p.1, p.2) (in_second c.args.statements c.args.line c.args.bytes.now c.in_ok-first.first c.in_ok-first.ensures _ c.in_err-second.ensures)
 
-pub returns-in-err-third : goal.returns-in-err-third
-returns-in-err-third c =
-    let p = err_from_is_err_and c.from-residual-in-err-third.result c.from-residual-in-err-third.ensures.1 in
-    rw (p.1, p.2) (in_third c.args.statements c.args.line c.args.bytes.now c.in-ok-first.first c.in-ok-first.ensures c.in-ok-second.second c.in-ok-second.ensures _ c.in-err-third.ensures)
+pub returns-in_err-third : goal.returns-in_err-third
+returns-in_err-third c =
+    let p = err_from_is_err_and c.from_residual-in_err-third.result c.from_residual-in_err-third.ensures.1 in
+    rw (p.1, p.2) (in_third c.args.statements c.args.line c.args.bytes.now c.in_ok-first.first c.in_ok-first.ensures c.in_ok-second.second c.in_ok-second.ensures _ c.in_err-third.ensures)
 
-pub returns-in-err-fourth : goal.returns-in-err-fourth
-returns-in-err-fourth c =
-    let p = err_from_is_err_and c.from-residual-in-err-fourth.result c.from-residual-in-err-fourth.ensures.1 in
-    rw (p.1, p.2) (in_fourth c.args.statements c.args.line c.args.bytes.now c.in-ok-first.first c.in-ok-first.ensures c.in-ok-second.second c.in-ok-second.ensures c.in-ok-third.third c.in-ok-third.ensures _ c.in-err-fourth.ensures)
+pub returns-in_err-fourth : goal.returns-in_err-fourth
+returns-in_err-fourth c =
+    let p = err_from_is_err_and c.from_residual-in_err-fourth.result c.from_residual-in_err-fourth.ensures.1 in
+    rw (p.1, p.2) (in_fourth c.args.statements c.args.line c.args.bytes.now c.in_ok-first.first c.in_ok-first.ensures c.in_ok-second.second c.in_ok-second.ensures c.in_ok-third.third c.in_ok-third.ensures _ c.in_err-fourth.ensures)
 
 pub returns : goal.returns
 returns c =
-    all_four c.args.statements c.args.line c.args.bytes.now c.in-ok-first.first c.in-ok-first.ensures c.in-ok-second.second c.in-ok-second.ensures c.in-ok-third.third c.in-ok-third.ensures c.in-ok-fourth.fourth c.in-ok-fourth.ensures
+    all_four c.args.statements c.args.line c.args.bytes.now c.in_ok-first.first c.in_ok-first.ensures c.in_ok-second.second c.in_ok-second.ensures c.in_ok-third.third c.in_ok-third.ensures c.in_ok-fourth.fourth c.in_ok-fourth.ensures

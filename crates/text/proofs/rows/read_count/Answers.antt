@@ -7,8 +7,8 @@ use Rattle.text.specs.Rows.{five, number_in}
 use Rattle.text.proofs.Judged.{stops}
 use Rattle.text.proofs.rows.read_count.Goals as goal
 
-pub returns-in-err-count : goal.returns-in-err-count
-returns-in-err-count c =
+pub returns-in_err-count : goal.returns-in_err-count
+returns-in_err-count c =
     let b = c.args.bytes.now in
-    let p = err_from_is_err_and c.from-residual.result c.from-residual.ensures.1 in
-    rw (p.1, p.2) (stops (number_checks (five 7 b) 1 7) (check (of_board Count 1 7) (ltb c.args.places (number_in b 7)) ∷ []) (number_in b 7) (number_in b 7) _ c.in-err-count.ensures)
+    let p = err_from_is_err_and c.from_residual.result c.from_residual.ensures.1 in
+    rw (p.1, p.2) (stops (number_checks (five 7 b) 1 7) (check (of_board Count 1 7) (ltb c.args.places (number_in b 7)) ∷ []) (number_in b 7) (number_in b 7) _ c.in_err-count.ensures)

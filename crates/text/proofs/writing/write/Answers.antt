@@ -1,6 +1,6 @@
 use Rattle.std.proofs.Common.{◌≡◌, ℕ, ◌+◌, ◌*◌, ◌≤◌, ltb, [], ◌∷◌, ◌++◌, length, drop, Some, None, Ok, sym, ap, ◌∙◌, arith, rules}
 use Rattle.std.specs.List.{flat_map}
-use Rattle.std.proofs.lemmas.Bool.{cond_false, le-ltb}
+use Rattle.std.proofs.lemmas.Bool.{cond-false, le-ltb}
 use Rattle.pasts.specs.Refusals.{check, first}
 use Rattle.pasts.specs.Tables.{tables, table_checks}
 use Rattle.pasts.specs.declared.refusal.Refusal.TheVariants.{BufferShort}
@@ -13,19 +13,19 @@ use Rattle.text.proofs.Holding.{held_few}
 use Rattle.text.proofs.Poured.{pour}
 use Rattle.text.proofs.writing.write.Given.{Over}
 use Rattle.text.proofs.writing.write.Goals as goal
-use Rattle.text.proofs.writing.write.Goals.{After-count-rules-held}
+use Rattle.text.proofs.writing.write.Goals.{After-count_rules-held}
 
-few : (g : Over) (c : After-count-rules-held g) → c.count-rules-held.result ≤ 4096
-few g c = omega (arith, (tables_checked (tables c.args.statements.now c.args.rules.now) (sym c.in-ok-check-tables.ensures)).1.1, held_few 1 c.args.rules.now, c.count-rules-held.ensures)
+few : (g : Over) (c : After-count_rules-held g) → c.count_rules-held.result ≤ 4096
+few g c = omega (arith, (tables_checked (tables c.args.statements.now c.args.rules.now) (sym c.in_ok-check_tables.ensures)).1.1, held_few 1 c.args.rules.now, c.count_rules-held.ensures)
 
-pub overflow-mul-length : goal.overflow-mul-length
-overflow-mul-length g c = let f = few g c in search rules
+pub overflow_mul-length : goal.overflow_mul-length
+overflow_mul-length g c = let f = few g c in search rules
 
-pub overflow-add-length : goal.overflow-add-length
-overflow-add-length g c = let f = few g c in search rules
+pub overflow_add-length : goal.overflow_add-length
+overflow_add-length g c = let f = few g c in search rules
 
-pub overflow-cast-held : goal.overflow-cast-held
-overflow-cast-held g c = let f = few g (goal.at.overflow-cast-held g c).After-count-rules-held in search rules
+pub overflow_cast-held : goal.overflow_cast-held
+overflow_cast-held g c = let f = few g (goal.at.overflow_cast-held g c).After-count_rules-held in search rules
 
 pub returns : goal.returns
 returns g c =
@@ -34,15 +34,15 @@ returns g c =
     let k = g.G.Written.coding in
     let xs = held 1 c.args.rules.now in
     let n = length c.args.statements.now in
-    let same = c.count-rules-held.ensures in
+    let same = c.count_rules-held.ensures in
     let last = check BufferShort (ltb (length buffer) (12 + 38 * length xs)) ∷ [] in
     let none : first (table_checks t ++ last) ≡ None =
-    first_passed (table_checks t) last (sym c.in-ok-check-tables.ensures) ∙ cond_false (ltb (length buffer) (12 + 38 * length xs)) (Some BufferShort) None (le-ltb (length buffer) (12 + 38 * length xs) (omega (arith, same, c.if-buffer-length.false))) in
-    let head = c.write-header.ensures ∙ ap (λ (j : ℕ). header_front n j ++ (10 ∷ []) ++ drop 12 buffer) same in
+    first_passed (table_checks t) last (sym c.in_ok-check_tables.ensures) ∙ cond-false (ltb (length buffer) (12 + 38 * length xs)) (Some BufferShort) None (le-ltb (length buffer) (12 + 38 * length xs) (omega (arith, same, c.if-buffer-length.false))) in
+    let head = c.write_header.ensures ∙ ap (λ (j : ℕ). header_front n j ++ (10 ∷ []) ++ drop 12 buffer) same in
     let out =
-    pour buffer c.write-header.new.out (header_front n (length xs) ++ (10 ∷ [])) c.write-rules.new.out (flat_map (row_bytes k) xs) 12 (38 * length xs) c.write-header.auto.out (omega (arith, c.if-buffer-length.false)) head c.write-rules.ensures in
+    pour buffer c.write_header.new.out (header_front n (length xs) ++ (10 ∷ [])) c.write_rules.new.out (flat_map (row_bytes k) xs) 12 (38 * length xs) c.write_header.auto.out (omega (arith, c.if-buffer-length.false)) head c.write_rules.ensures in
     record {
       answer = ap (λ (j : ℕ). Ok (12 + 38 * j)) same ∙ sym (ap (λ o. or_length o (12 + 38 * length xs)) none);
       refused = λ q e. let z : ◌≡◌ {A = ℕ} 0 1 = cc e in absurd (omega arith);
-      written = λ j e. let l : 12 + 38 * c.count-rules-held.result ≡ j = cc e in out ∙ ap (λ (i : ℕ). (header_front n (length xs) ++ (10 ∷ []) ++ flat_map (row_bytes k) xs) ++ drop i buffer) (ap (λ (i : ℕ). 12 + 38 * i) (sym same) ∙ l);
+      written = λ j e. let l : 12 + 38 * c.count_rules-held.result ≡ j = cc e in out ∙ ap (λ (i : ℕ). (header_front n (length xs) ++ (10 ∷ []) ++ flat_map (row_bytes k) xs) ++ drop i buffer) (ap (λ (i : ℕ). 12 + 38 * i) (sym same) ∙ l);
     }

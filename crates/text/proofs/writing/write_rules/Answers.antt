@@ -14,14 +14,14 @@ room g c =
     let r = held_room c.args.rules.now c.loop-rule.rule-index c.rule-item.result c.rule-item.result (omega arith) c.rule-item.is c.if-rule-ne0.true in
     omega (arith, r, c.loop-rule.invariant.2, c.requires.room)
 
-pub slice-bounds-write-rule-count : goal.slice-bounds-write-rule-count
-slice-bounds-write-rule-count g c = omega (arith, c.loop-rule.invariant.3)
+pub slice-bounds-write_rule-count : goal.slice-bounds-write_rule-count
+slice-bounds-write_rule-count g c = omega (arith, c.loop-rule.invariant.3)
 
-pub slice-bounds-write-rule-start : goal.slice-bounds-write-rule-start
-slice-bounds-write-rule-start g c = omega (arith, c.loop-rule.invariant.3)
+pub slice-bounds-write_rule-start : goal.slice-bounds-write_rule-start
+slice-bounds-write_rule-start g c = omega (arith, c.loop-rule.invariant.3)
 
-pub write-rule-requires : goal.write-rule-requires
-write-rule-requires g c = simp (length-take, length-drop) (omega (arith, room g (goal.at.write-rule-requires g c).Then-rule-ne0))
+pub write_rule-requires : goal.write_rule-requires
+write_rule-requires g c = simp (length-take, length-drop) (omega (arith, room g (goal.at.write_rule-requires g c).Then-rule-ne0))
 
 pub loop-rule-preserved : goal.loop-rule-preserved
 loop-rule-preserved g c =
@@ -37,7 +37,7 @@ loop-rule-preserved g c =
           let l = ap length e ∙ length-append (held 1 (take i rules)) (numbered _ r ∷ []) in
           let q = held_room rules i r r (omega arith) c.rule-item.is w.if-rule-ne0.true in
           let mk : c.loop-rule.mark + 1 ≡ i + 1 = omega (arith, c.loop-rule.invariant.0) in
-          let y = w.write-rule.ensures ∙ ap (λ k. bytes (numbered k r) ++ drop 38 (take (length c.loop-rule.out - at) (drop at c.loop-rule.out))) mk in
+          let y = w.write_rule.ensures ∙ ap (λ k. bytes (numbered k r) ++ drop 38 (take (length c.loop-rule.out - at) (drop at c.loop-rule.out))) mk in
           let o = pour was c.loop-rule.out (flat_map bytes (held 1 (take i rules))) _ (bytes (numbered (i + 1) r)) at 38 c.loop-rule.auto.out c.loop-rule.invariant.3 c.loop-rule.invariant.4 y in (
             omega (arith, c.loop-rule.invariant.0),
             omega arith,

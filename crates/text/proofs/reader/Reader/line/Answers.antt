@@ -12,12 +12,12 @@ returns-then-self-width c =
     let e = short text at w c.if-self-width.true in
     record { line = none_cut (drop at text) w e; rest = stays_cut (drop at text) w e }
 
-pub returns-then-not-is-feed : goal.returns-then-not-is-feed
-returns-then-not-is-feed c =
+pub returns-then-not-is_feed : goal.returns-then-not-is_feed
+returns-then-not-is_feed c =
     let text = c.args.self.now.text.now in
     let at = c.args.self.now.at in
     let w = c.args.width in
-    let e = no_feed text at w (eqb-false _ 10 (sym c.if-not-is-feed.ensures)) in
+    let e = no_feed text at w (eqb-false _ 10 (sym c.if-not-is_feed.ensures)) in
     record { line = none_cut (drop at text) w e; rest = stays_cut (drop at text) w e }
 
 pub returns : goal.returns
@@ -25,7 +25,7 @@ returns c =
     let text = c.args.self.now.text.now in
     let at = c.args.self.now.at in
     let w = c.args.width in
-    let e = whole text at w c.if-self-width.false (eqb-true _ 10 (sym c.if-not-is-feed.ensures)) in
+    let e = whole text at w c.if-self-width.false (eqb-true _ 10 (sym c.if-not-is_feed.ensures)) in
     let l : at + w - at ≡ w = omega arith in
     record {
       line = some_whole (drop at text) _ w e (ap (λ k. take k (drop at text)) l);
