@@ -12,3 +12,4 @@ pub mod PercentLaws
 pub mod SupplierLaws
 pub mod BitSets
 pub mod TurnedLaws
+pub mod VerdictLaws

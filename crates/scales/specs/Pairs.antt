@@ -2,7 +2,7 @@
 --     both a b            the pair of two grades
 --     pairs l r           the scale of pairs of grades of l and of r: every word part by part, level and height as sums
 --     pair_coding c d     256 times the first code and the second code
-use Rattle.std.specs.Prelude.{ℕ, ◌+◌, ◌*◌, ◌/◌, ◌%◌, ◌&&◌, Some, None, Option}
+use Rattle.std.specs.Prelude.{◌+◌, ◌*◌, ◌/◌, ◌%◌, ◌&&◌, Some, None, Option}
 use Rattle.scales.specs.Meaning.{Meaning}
 use Rattle.scales.specs.Codes.{Coding}
 use Rattle.scales.specs.declared.pair.Pair.{Pair}

@@ -4,7 +4,9 @@
 --     product_bound       a blend of numbers up to 100 is at most 100
 --     percent_laws        the laws
 --     percent_codes       the laws of the codes, under any bound from 100 on
-use Rattle.std.specs.Prelude.{◌≡◌, ℕ, ◌*◌, ◌/◌, ◌<◌, ◌≤◌, min, true, Some, nat_le}
+--     percent_short_codes, percent_written_codes   under the two bounds that scales ask for
+--     percent_low         the height is within the bound of a short scale
+use Rattle.std.specs.Prelude.{◌≡◌, ℕ, ◌*◌, ◌≤◌, min, Some, nat_le}
 use Rattle.std.proofs.Common.{ap, ◌∙◌, mul-le-mul, le_trans, le-div_iff_mul-le, div-mul-le_self, arith, lit<}
 use Rattle.std.proofs.Math.Nat.{mul-div_cancel_left}
 use Rattle.std.proofs.lemmas.Bool.{leb-true, leb-false, le-leb, and_parts, not-true}
@@ -66,3 +68,12 @@ pub percent_codes : (most : ℕ) → 100 ≤ most → Codes percents percent_cod
 percent_codes most h =
     whole number (λ g. omega arith)
     (λ g. (percent (points g), some_up_to 100 percent (points g) (omega arith), ap percent (omega arith))) encodes
+
+pub percent_short_codes : Codes percents percent_coding 255
+percent_short_codes = percent_codes 255 (omega arith)
+
+pub percent_written_codes : Codes percents percent_coding 65535
+percent_written_codes = percent_codes 65535 (omega arith)
+
+pub percent_low : percents.height ≤ 255
+percent_low = omega arith

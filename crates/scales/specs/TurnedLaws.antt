@@ -4,7 +4,7 @@
 --     turned_laws                 the laws
 --     turned_codes                the laws of the codes
 use Rattle.std.specs.Prelude.{◌≡◌, ℕ, Some, None, Option, refl}
-use Rattle.std.proofs.Common.{sym, ap, ◌∙◌, arith}
+use Rattle.std.proofs.Common.{sym, ap, arith}
 use Rattle.std.specs.Option.{option_map}
 use Rattle.scales.specs.Meaning.{Meaning, Under, Same}
 use Rattle.scales.specs.Laws.{Laws}

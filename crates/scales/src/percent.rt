@@ -1,8 +1,7 @@
 // Percent: the whole numbers 0 to 100 in their usual order.
 ghost use Rattle.std.specs.Prelude.{◌≡◌, ◌≤◌};
 ghost use Rattle.scales.specs.Percents.{percents, percent_coding, points as points_of};
-ghost use Rattle.scales.specs.PercentLaws.{percent_laws, percent_codes};
-ghost use Rattle.std.proofs.Common.{arith, rules};
+ghost use Rattle.scales.specs.PercentLaws.{percent_laws, percent_short_codes, percent_written_codes, percent_low};
 
 use crate::scale::{Scale, Short, Written};
 
@@ -72,9 +71,9 @@ impl Scale for Percent {
 impl Short for Percent {
     ghost coding = { percent_coding };
 
-    ghost codes = { percent_codes 255 (omega arith) };
+    ghost codes = { percent_short_codes };
 
-    ghost low = { Prim.search rules };
+    ghost low = { percent_low };
 
     fn short_code(self) -> u8 {
         self.points()
@@ -92,7 +91,7 @@ impl Short for Percent {
 impl Written for Percent {
     ghost coding = { percent_coding };
 
-    ghost codes = { percent_codes 65535 (omega arith) };
+    ghost codes = { percent_written_codes };
 
     fn code(self) -> u16 {
         self.points() as u16

@@ -1,7 +1,6 @@
 // Turned: any scale with its order the other way round.
 ghost use Rattle.scales.specs.Turning.{turned, turned_coding};
 ghost use Rattle.scales.specs.TurnedLaws.{turned_laws, turned_codes};
-ghost use Rattle.std.proofs.Common.{rules};
 
 use crate::scale::{Scale, Short, Written};
 
@@ -63,7 +62,7 @@ impl<S: Short> Short for Turned<S> {
 
     ghost codes = { turned_codes S.Short.codes };
 
-    ghost low = { Prim.search rules };
+    ghost low = { S.Short.low };
 
     fn short_code(self) -> u8 {
         self.grade.short_code()

@@ -1,6 +1,6 @@
 // Verdict: what two witnesses make of a statement, on four grades.
 ghost use Rattle.scales.specs.Verdicts.{verdicts, verdict_coding};
-ghost use Rattle.std.proofs.Common.{rules};
+ghost use Rattle.scales.specs.VerdictLaws.{verdict_laws, verdict_short_codes, verdict_written_codes, verdict_low};
 
 use crate::scale::{Scale, Short, Written};
 
@@ -16,7 +16,7 @@ pub enum Verdict {
 impl Scale for Verdict {
     ghost meaning = { verdicts };
 
-    ghost laws = { Prim.search rules };
+    ghost laws = { verdict_laws };
 
     fn lowest() -> Verdict {
         Verdict::False
@@ -77,9 +77,9 @@ impl Scale for Verdict {
 impl Short for Verdict {
     ghost coding = { verdict_coding };
 
-    ghost codes = { Prim.search rules };
+    ghost codes = { verdict_short_codes };
 
-    ghost low = { Prim.search rules };
+    ghost low = { verdict_low };
 
     fn short_code(self) -> u8 {
         match self {
@@ -104,7 +104,7 @@ impl Short for Verdict {
 impl Written for Verdict {
     ghost coding = { verdict_coding };
 
-    ghost codes = { Prim.search rules };
+    ghost codes = { verdict_written_codes };
 
     fn code(self) -> u16 {
         self.short_code() as u16
