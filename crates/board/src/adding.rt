@@ -22,7 +22,7 @@ fn check_add<G: Scale>(
     k: u16,
     rule: &Rule<G>,
 ) -> Result<(), Refusal>
-    ensures { refusal_of result ≡ first (call_checks meaning (Add k rule.now) (tables statements.now rules.now)) }
+    ensures { refusal_of result ≡ first (call_checks G.meaning (Add k rule.now) (tables statements.now rules.now)) }
 {
     if outside(rules.len(), k as usize) {
         return Err(Refusal::NoSuchMark);
@@ -41,7 +41,7 @@ pub fn add<G: Scale>(
     k: u16,
     rule: Rule<G>,
 ) -> Result<(), Refusal>
-    ensures { (degree : ℕ → G) → Outcome meaning degree (Add k rule) (tables statements.old rules.old) (said Added result) (tables statements.new rules.new) }
+    ensures { (degree : ℕ → G) → Outcome G.meaning degree (Add k rule) (tables statements.old rules.old) (said Added result) (tables statements.new rules.new) }
 {
     check_tables(statements, rules)?;
     check_add(statements, rules, k, &rule)?;

@@ -9,7 +9,7 @@ use scales::Scale;
 
 // A statement that no one asked for.
 pub(crate) fn unopened_statement<G: Scale>() -> Statement<G>
-    ensures { result ≡ unopened meaning }
+    ensures { result ≡ unopened G.meaning }
 {
     Statement {
         grade: G::lowest(),
@@ -19,7 +19,7 @@ pub(crate) fn unopened_statement<G: Scale>() -> Statement<G>
 
 // A place with no rule.
 pub(crate) fn blank_place<G: Scale>() -> Rule<G>
-    ensures { result ≡ blank meaning }
+    ensures { result ≡ blank G.meaning }
 {
     Rule {
         head: 0,
@@ -32,7 +32,7 @@ pub(crate) fn blank_place<G: Scale>() -> Rule<G>
 // The statement with the number `s`.
 pub(crate) fn statement_at<G: Scale>(statements: &[Statement<G>], s: u16) -> Statement<G>
     requires { 1 ≤ s }
-    ensures { result ≡ entered meaning statements.now s }
+    ensures { result ≡ entered G.meaning statements.now s }
 {
     at(statements, s, unopened_statement())
 }
@@ -40,7 +40,7 @@ pub(crate) fn statement_at<G: Scale>(statements: &[Statement<G>], s: u16) -> Sta
 // The head of the rule in the place `k`, or 0 if the place is blank.
 pub(crate) fn head_at<G: Scale>(rules: &[Rule<G>], k: u16) -> u16
     requires { 1 ≤ k }
-    ensures { result ≡ (slice_index_or rules.now (k - 1) (blank meaning)).head }
+    ensures { result ≡ (slice_index_or rules.now (k - 1) (blank G.meaning)).head }
 {
     at(rules, k, blank_place()).head
 }

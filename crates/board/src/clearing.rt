@@ -24,7 +24,7 @@ pub fn clear<G: Scale>(
     statements: &mut [Statement<G>],
     rules: &mut [Rule<G>],
 ) -> Result<(), Refusal>
-    ensures { Clears meaning (tables statements.old rules.old) (refusal_of result) (tables statements.new rules.new) }
+    ensures { Clears G.meaning (tables statements.old rules.old) (refusal_of result) (tables statements.new rules.new) }
 {
     check_lengths(statements, rules)?;
     fill(statements, unopened_statement());

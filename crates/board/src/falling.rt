@@ -14,7 +14,7 @@ use scales::Scale;
 
 // An open statement that leads to the head falls to the lowest grade, and is told as if a son had risen.
 fn lowered<G: Scale>(x: Statement<G>, leads: bool) -> Statement<G>
-    ensures { result ≡ fallen meaning leads x }
+    ensures { result ≡ fallen G.meaning leads x }
 {
     if leads && is_open(x.mark) {
         let grade = G::lowest();
@@ -27,7 +27,7 @@ fn lowered<G: Scale>(x: Statement<G>, leads: bool) -> Statement<G>
 // The flagged statements that are open fall.
 fn fall<G: Scale>(statements: &mut [Statement<G>], flags: &[bool])
     requires { length statements.old ≤ length flags.now }
-    ensures { (i : ℕ) → i < length statements.old → slice_index_or statements.new i (unopened meaning) ≡ fallen meaning (slice_index_or flags.now i false) (slice_index_or statements.old i (unopened meaning)) }
+    ensures { (i : ℕ) → i < length statements.old → slice_index_or statements.new i (unopened G.meaning) ≡ fallen G.meaning (slice_index_or flags.now i false) (slice_index_or statements.old i (unopened G.meaning)) }
 {
     for (i, x) in statements.iter_mut().enumerate() {
         *x = lowered(*x, flags[i]);
@@ -46,7 +46,7 @@ pub(crate) fn fall_from<G: Scale>(statements: &mut [Statement<G>], rules: &[Rule
     requires few { length statements.old ≤ 1024 }
     requires places { length rules.now ≤ 4096 }
     requires formed { malformed (length statements.old) rules.now ≡ false }
-    ensures { Falls meaning rules.now head statements.old statements.new }
+    ensures { Falls G.meaning rules.now head statements.old statements.new }
 {
     let mut first = no_places(4 * rules.len() as u16);
     let mut next = [0; 16384];

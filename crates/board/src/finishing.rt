@@ -44,7 +44,7 @@ fn advance_noted<V: Survey>(
     requires long { length statements.old ≤ 64 * length words.old }
     requires noted { Noted V.Grade.Scale.meaning words.old statements.old }
     requires before { Has opened.old (s - 1) → SonsOpen V.Grade.Scale.meaning rules.now statements.old s }
-    ensures after { statements.new ≡ advanced V.Grade.Scale.meaning (degrees survey.now) rules.now statements.old s }
+    ensures after { statements.new ≡ advanced V.Grade.Scale.meaning (V.degrees survey.now) rules.now statements.old s }
     ensures noted { Noted V.Grade.Scale.meaning words.new statements.new }
     ensures opened { (i : ℕ) → (i ≢ s - 1) → Has opened.new i → Has opened.old i }
 {
@@ -74,7 +74,7 @@ fn run<V: Survey>(
     requires short { length words.old ≡ 16 }
     requires noted { Noted V.Grade.Scale.meaning words.old statements.old }
     requires none { (i : ℕ) → Has opened.old i → ⊥ }
-    ensures { Finishes V.Grade.Scale.meaning (degrees survey.now) result (tables statements.old rules.now) (tables statements.new rules.now) }
+    ensures { Finishes V.Grade.Scale.meaning (V.degrees survey.now) result (tables statements.old rules.now) (tables statements.new rules.now) }
 {
     let mut count: u64 = 0;
     while let Some(s) = first_noted(statements, words) {
@@ -93,7 +93,7 @@ fn run_indexed<V: Survey>(
     requires few { length statements.old ≤ 1024 }
     requires places { length rules.now ≤ 4096 }
     requires formed { malformed (length statements.old) rules.now ≡ false }
-    ensures { Finishes V.Grade.Scale.meaning (degrees survey.now) result (tables statements.old rules.now) (tables statements.new rules.now) }
+    ensures { Finishes V.Grade.Scale.meaning (V.degrees survey.now) result (tables statements.old rules.now) (tables statements.new rules.now) }
 {
     let end = rules.len() as u16;
     let mut first = no_places(end);
@@ -130,7 +130,7 @@ pub fn finish<V: Survey>(
     statements: &mut [Statement<V::Grade>],
     rules: &[Rule<V::Grade>],
 ) -> Result<u64, Refusal>
-    ensures { Outcome V.Grade.Scale.meaning (degrees survey.now) Finish (tables statements.old rules.now) (finished result) (tables statements.new rules.now) }
+    ensures { Outcome V.Grade.Scale.meaning (V.degrees survey.now) Finish (tables statements.old rules.now) (finished result) (tables statements.new rules.now) }
 {
     check_tables(statements, rules)?;
     Ok(run_indexed(survey, statements, rules))

@@ -30,7 +30,7 @@ pub(crate) fn chain_worth<V: Survey>(
     requires on { s < length chain.first.now }
     requires room { length rules.now ≤ length chain.next.now }
     requires chains { Chained 0 (heads rules.now) chain.first.now chain.next.now }
-    ensures { result ≡ worth_of V.Grade.Scale.meaning (degrees survey.now) rules.now (grades V.Grade.Scale.meaning statements.now) s }
+    ensures { result ≡ worth_of V.Grade.Scale.meaning (V.degrees survey.now) rules.now (grades V.Grade.Scale.meaning statements.now) s }
 {
     let mut total = survey.degree(s);
     let mut k = chain.first[s as usize] as usize;
@@ -44,9 +44,9 @@ pub(crate) fn chain_worth<V: Survey>(
 // The bodies that are there are opened.
 fn open_noted<G: Scale>(statements: &mut [Statement<G>], words: &mut [u64], bodies: [u16; 4])
     requires room { length statements.old ≤ 64 * length words.old }
-    requires noted { Noted meaning words.old statements.old }
-    ensures hears { statements.new ≡ all_told meaning Opened statements.old (present bodies) }
-    ensures noted { Noted meaning words.new statements.new }
+    requires noted { Noted G.meaning words.old statements.old }
+    ensures hears { statements.new ≡ all_told G.meaning Opened statements.old (present bodies) }
+    ensures noted { Noted G.meaning words.new statements.new }
 {
     for b in bodies {
         if b != 0 {
@@ -67,9 +67,9 @@ fn open_chain<G: Scale>(
     requires room { length rules.now ≤ length chain.next.now }
     requires chains { Chained 0 (heads rules.now) chain.first.now chain.next.now }
     requires long { length statements.old ≤ 64 * length words.old }
-    requires noted { Noted meaning words.old statements.old }
-    ensures hears { statements.new ≡ all_told meaning Opened statements.old (sons rules.now s) }
-    ensures noted { Noted meaning words.new statements.new }
+    requires noted { Noted G.meaning words.old statements.old }
+    ensures hears { statements.new ≡ all_told G.meaning Opened statements.old (sons rules.now s) }
+    ensures noted { Noted G.meaning words.new statements.new }
 {
     let mut k = chain.first[s as usize] as usize;
     while k < rules.len() {
@@ -92,10 +92,10 @@ pub(crate) fn open_once<G: Scale>(
     requires room { length rules.now ≤ length chain.next.now }
     requires chains { Chained 0 (heads rules.now) chain.first.now chain.next.now }
     requires long { length statements.old ≤ 64 * length words.old }
-    requires noted { Noted meaning words.old statements.old }
-    requires before { Has opened.old (s - 1) → SonsOpen meaning rules.now statements.old s }
-    ensures hears { statements.new ≡ all_told meaning Opened statements.old (sons rules.now s) }
-    ensures noted { Noted meaning words.new statements.new }
+    requires noted { Noted G.meaning words.old statements.old }
+    requires before { Has opened.old (s - 1) → SonsOpen G.meaning rules.now statements.old s }
+    ensures hears { statements.new ≡ all_told G.meaning Opened statements.old (sons rules.now s) }
+    ensures noted { Noted G.meaning words.new statements.new }
     ensures opened { (i : ℕ) → (i ≢ s - 1) → Has opened.new i → Has opened.old i }
 {
     let i = s as usize - 1;
@@ -121,9 +121,9 @@ pub(crate) fn tell_chain<G: Scale>(
     requires chains { Chained 0 (used (uses rules.now)) chain.first.now chain.next.now }
     requires wide { Wide rules.now }
     requires long { length statements.old ≤ 64 * length words.old }
-    requires noted { Noted meaning words.old statements.old }
-    ensures hears { statements.new ≡ all_told meaning SonRose statements.old (parents rules.now s) }
-    ensures noted { Noted meaning words.new statements.new }
+    requires noted { Noted G.meaning words.old statements.old }
+    ensures hears { statements.new ≡ all_told G.meaning SonRose statements.old (parents rules.now s) }
+    ensures noted { Noted G.meaning words.new statements.new }
 {
     let mut k = chain.first[s as usize] as usize;
     while k < 4 * rules.len() {

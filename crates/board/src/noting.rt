@@ -16,7 +16,7 @@ use scales::Scale;
 // Notes every active statement.
 pub(crate) fn note_active<G: Scale>(statements: &[Statement<G>], words: &mut [u64])
     requires { length statements.now ≤ 64 * length words.old }
-    ensures { Noted meaning words.new statements.now }
+    ensures { Noted G.meaning words.new statements.now }
 {
     for (i, x) in statements.iter().enumerate() {
         if is_active(x.mark) {
@@ -34,9 +34,9 @@ pub(crate) fn tell_noted<G: Scale>(
 )
     requires on { 1 ≤ s }
     requires room { length statements.old ≤ 64 * length words.old }
-    requires noted { Noted meaning words.old statements.old }
-    ensures hears { statements.new ≡ slice_set statements.old (s - 1) (told event (entered meaning statements.old s)) }
-    ensures noted { Noted meaning words.new statements.new }
+    requires noted { Noted G.meaning words.old statements.old }
+    ensures hears { statements.new ≡ slice_set statements.old (s - 1) (told event (entered G.meaning statements.old s)) }
+    ensures noted { Noted G.meaning words.new statements.new }
 {
     let x = statement_at(statements, s);
     let mark = respond(x.mark, event);
@@ -55,10 +55,10 @@ fn lowest_in<G: Scale>(statements: &[Statement<G>], words: &mut [u64], q: usize)
     requires few { length statements.now ≤ 1024 }
     requires short { length words.old ≡ 16 }
     requires within { q < 16 }
-    requires rests { Resting meaning (64 * q) statements.now }
-    requires noted { Noted meaning words.old statements.now }
-    ensures found { MatchOption result (Resting meaning (64 * (q + 1)) statements.now) (λ s. Next meaning statements.now s) }
-    ensures noted { Noted meaning words.new statements.now }
+    requires rests { Resting G.meaning (64 * q) statements.now }
+    requires noted { Noted G.meaning words.old statements.now }
+    ensures found { MatchOption result (Resting G.meaning (64 * (q + 1)) statements.now) (λ s. Next G.meaning statements.now s) }
+    ensures noted { Noted G.meaning words.new statements.now }
 {
     while words[q] != 0 {
         let i = 64 * q + lowest(words[q]) as usize;
@@ -74,9 +74,9 @@ fn lowest_in<G: Scale>(statements: &[Statement<G>], words: &mut [u64], q: usize)
 pub(crate) fn first_noted<G: Scale>(statements: &[Statement<G>], words: &mut [u64]) -> Option<u16>
     requires few { length statements.now ≤ 1024 }
     requires short { length words.old ≡ 16 }
-    requires noted { Noted meaning words.old statements.now }
-    ensures picks { Picks meaning statements.now result }
-    ensures noted { Noted meaning words.new statements.now }
+    requires noted { Noted G.meaning words.old statements.now }
+    ensures picks { Picks G.meaning statements.now result }
+    ensures noted { Noted G.meaning words.new statements.now }
 {
     for q in 0..16 {
         if let Some(s) = lowest_in(statements, words, q) {

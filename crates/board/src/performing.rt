@@ -59,7 +59,7 @@ pub fn perform<V: Survey>(
     rules: &mut [Rule<V::Grade>],
     call: &Call<V::Grade>,
 ) -> Answer<V::Grade>
-    ensures { Outcome V.Grade.Scale.meaning (degrees survey.now) call.now (tables statements.old rules.old) result (tables statements.new rules.new) }
+    ensures { Outcome V.Grade.Scale.meaning (V.degrees survey.now) call.now (tables statements.old rules.old) result (tables statements.new rules.new) }
 {
     match *call {
         Call::Add(k, rule) => say(Answer::Added, add(statements, rules, k, rule)),

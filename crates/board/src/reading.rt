@@ -21,7 +21,7 @@ fn check_read<G: Scale>(
     rules: &[Rule<G>],
     s: u16,
 ) -> Result<(), Refusal>
-    ensures { refusal_of result ≡ first (call_checks meaning (Read s) (tables statements.now rules.now)) }
+    ensures { refusal_of result ≡ first (call_checks G.meaning (Read s) (tables statements.now rules.now)) }
 {
     check_statement(statements, s)?;
     if !is_open(statement_at(statements, s).mark) {
@@ -47,7 +47,7 @@ pub fn read<G: Scale>(
     rules: &[Rule<G>],
     s: u16,
 ) -> Result<(G, bool), Refusal>
-    ensures { (degree : ℕ → G) → Outcome meaning degree (Read s) (tables statements.now rules.now) (graded result) (tables statements.now rules.now) }
+    ensures { (degree : ℕ → G) → Outcome G.meaning degree (Read s) (tables statements.now rules.now) (graded result) (tables statements.now rules.now) }
 {
     check_tables(statements, rules)?;
     check_read(statements, rules, s)?;

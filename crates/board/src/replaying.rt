@@ -18,7 +18,7 @@ fn perform_entry<V: Survey>(
     entry: &mut Entry<V::Grade>,
 )
     ensures kept { entry.new.call ≡ entry.old.call }
-    ensures answer { Outcome V.Grade.Scale.meaning (degrees survey.now) entry.old.call (tables statements.old rules.old) entry.new.answer (tables statements.new rules.new) }
+    ensures answer { Outcome V.Grade.Scale.meaning (V.degrees survey.now) entry.old.call (tables statements.old rules.old) entry.new.answer (tables statements.new rules.new) }
 {
     let answer = perform(survey, statements, rules, &entry.call);
     entry.answer = answer;
@@ -32,7 +32,7 @@ pub fn replay<V: Survey>(
     rules: &mut [Rule<V::Grade>],
     entries: &mut [Entry<V::Grade>],
 ) -> Result<(), Refusal>
-    ensures { Replays V.Grade.Scale.meaning (degrees survey.now) (tables statements.old rules.old) entries.old result (tables statements.new rules.new) entries.new }
+    ensures { Replays V.Grade.Scale.meaning (V.degrees survey.now) (tables statements.old rules.old) entries.old result (tables statements.new rules.new) entries.new }
 {
     clear(statements, rules)?;
     for entry in entries.iter_mut() {

@@ -24,7 +24,7 @@ use surveys::Survey;
 // The lowest number of an active statement.
 pub(crate) fn next_active<G: Scale>(statements: &[Statement<G>]) -> Option<u16>
     requires { length statements.now ≤ 1024 }
-    ensures { Picks meaning statements.now result }
+    ensures { Picks G.meaning statements.now result }
 {
     for (i, x) in statements.iter().enumerate() {
         if is_active(x.mark) {
@@ -37,7 +37,7 @@ pub(crate) fn next_active<G: Scale>(statements: &[Statement<G>]) -> Option<u16>
 // The statement `s`, if there is one, is taken, with this grade.
 pub(crate) fn take<G: Scale>(statements: &mut [Statement<G>], s: u16, grade: G)
     requires { 1 ≤ s }
-    ensures { statements.new ≡ set statements.old (s - 1) (record { grade = grade; mark = answered (entered meaning statements.old s).mark Taken }) }
+    ensures { statements.new ≡ set statements.old (s - 1) (record { grade = grade; mark = answered (entered G.meaning statements.old s).mark Taken }) }
 {
     let mark = respond(statement_at(statements, s).mark, Event::Taken);
     put(statements, s, Statement { grade, mark });
@@ -52,8 +52,8 @@ pub(crate) fn advance<V: Survey>(
     s: u16,
 ) -> bool
     requires { On (length statements.old) s }
-    ensures rose { result ≡ risen V.Grade.Scale.meaning (degrees survey.now) rules.now statements.old s }
-    ensures after { statements.new ≡ advanced V.Grade.Scale.meaning (degrees survey.now) rules.now statements.old s }
+    ensures rose { result ≡ risen V.Grade.Scale.meaning (V.degrees survey.now) rules.now statements.old s }
+    ensures after { statements.new ≡ advanced V.Grade.Scale.meaning (V.degrees survey.now) rules.now statements.old s }
 {
     let new = worth(survey, statements, rules, s);
     let old = grade_of(statements, s);
@@ -73,7 +73,7 @@ pub fn step<V: Survey>(
     statements: &mut [Statement<V::Grade>],
     rules: &[Rule<V::Grade>],
 ) -> Result<(u16, bool), Refusal>
-    ensures { Outcome V.Grade.Scale.meaning (degrees survey.now) Step (tables statements.old rules.now) (stepped result) (tables statements.new rules.now) }
+    ensures { Outcome V.Grade.Scale.meaning (V.degrees survey.now) Step (tables statements.old rules.now) (stepped result) (tables statements.new rules.now) }
 {
     check_tables(statements, rules)?;
     match next_active(statements) {

@@ -15,7 +15,7 @@ use scales::Scale;
 // The statement `s`, if there is one, answers the event.
 pub(crate) fn tell<G: Scale>(statements: &mut [Statement<G>], s: u16, event: Event)
     requires { 1 ≤ s }
-    ensures { statements.new ≡ slice_set statements.old (s - 1) (told event (entered meaning statements.old s)) }
+    ensures { statements.new ≡ slice_set statements.old (s - 1) (told event (entered G.meaning statements.old s)) }
 {
     let x = statement_at(statements, s);
     let mark = respond(x.mark, event);
@@ -25,7 +25,7 @@ pub(crate) fn tell<G: Scale>(statements: &mut [Statement<G>], s: u16, event: Eve
 
 // The bodies that are there are opened.
 fn open_bodies<G: Scale>(statements: &mut [Statement<G>], bodies: [u16; 4])
-    ensures { statements.new ≡ all_told meaning Opened statements.old (present bodies) }
+    ensures { statements.new ≡ all_told G.meaning Opened statements.old (present bodies) }
 {
     for b in bodies {
         if b != 0 {
@@ -36,7 +36,7 @@ fn open_bodies<G: Scale>(statements: &mut [Statement<G>], bodies: [u16; 4])
 
 // The sons of `s`, which are the bodies of the rules with head `s`, are opened.
 pub(crate) fn open_sons<G: Scale>(statements: &mut [Statement<G>], rules: &[Rule<G>], s: u16)
-    ensures { statements.new ≡ all_told meaning Opened statements.old (sons rules.now s) }
+    ensures { statements.new ≡ all_told G.meaning Opened statements.old (sons rules.now s) }
 {
     for rule in rules {
         if rule.head == s {
@@ -59,7 +59,7 @@ fn holds(bodies: [u16; 4], s: u16) -> bool
 
 // The parents of `s`, which are the heads of the rules with a body `s`, are told that a son rose.
 pub(crate) fn tell_parents<G: Scale>(statements: &mut [Statement<G>], rules: &[Rule<G>], s: u16)
-    ensures { statements.new ≡ all_told meaning SonRose statements.old (parents rules.now s) }
+    ensures { statements.new ≡ all_told G.meaning SonRose statements.old (parents rules.now s) }
 {
     for rule in rules {
         if rule.head != 0 && holds(rule.bodies, s) {

@@ -11,7 +11,7 @@ use scales::Scale;
 // The grade that the statement `s` holds, or the lowest if there is no such statement.
 pub(crate) fn grade_of<G: Scale>(statements: &[Statement<G>], s: u16) -> G
     requires { 1 ≤ s }
-    ensures { result ≡ grades meaning statements.now s }
+    ensures { result ≡ grades G.meaning statements.now s }
 {
     let i = s as usize - 1;
     if i < statements.len() {
@@ -22,7 +22,7 @@ pub(crate) fn grade_of<G: Scale>(statements: &[Statement<G>], s: u16) -> G
 
 // Takes one more grade in, by the form.
 fn combine<G: Scale>(form: Form, so_far: G, next: G) -> G
-    ensures { result ≡ combined meaning form so_far next }
+    ensures { result ≡ combined G.meaning form so_far next }
 {
     match form {
         Form::All => so_far.meet(next),
@@ -33,7 +33,7 @@ fn combine<G: Scale>(form: Form, so_far: G, next: G) -> G
 
 // The weight with one body after the other blended in.
 fn chain<G: Scale>(statements: &[Statement<G>], weight: G, bodies: [u16; 4]) -> G
-    ensures { result ≡ blends meaning (grades meaning statements.now) weight (present bodies) }
+    ensures { result ≡ blends G.meaning (grades G.meaning statements.now) weight (present bodies) }
 {
     let mut total = weight;
     for b in bodies {
@@ -46,7 +46,7 @@ fn chain<G: Scale>(statements: &[Statement<G>], weight: G, bodies: [u16; 4]) -> 
 
 // The grades of the bodies taken together, if there is one.
 fn gather<G: Scale>(statements: &[Statement<G>], form: Form, bodies: [u16; 4]) -> Option<G>
-    ensures { result ≡ gathered meaning (grades meaning statements.now) form (present bodies) }
+    ensures { result ≡ gathered G.meaning (grades G.meaning statements.now) form (present bodies) }
 {
     let mut total = None;
     for b in bodies {
@@ -63,7 +63,7 @@ fn gather<G: Scale>(statements: &[Statement<G>], form: Form, bodies: [u16; 4]) -
 
 // What the rule says of its head, wherever its bodies stand.
 fn any_value<G: Scale>(statements: &[Statement<G>], rule: &Rule<G>) -> G
-    ensures { result ≡ value_of_lem meaning (grades meaning statements.now) rule.now }
+    ensures { result ≡ value_of_lem G.meaning (grades G.meaning statements.now) rule.now }
 {
     match rule.form {
         Form::Chain => chain(statements, rule.weight, rule.bodies),
@@ -123,7 +123,7 @@ fn standing<G: Scale>(statements: &[Statement<G>], bodies: &[u16; 4]) -> Extent
 // What a rule with two bodies says.
 fn two<G: Scale>(statements: &[Statement<G>], rule: &Rule<G>) -> G
     requires { Stands Extent.Two rule.now.bodies }
-    ensures { result ≡ value_of_lem meaning (grades meaning statements.now) rule.now }
+    ensures { result ≡ value_of_lem G.meaning (grades G.meaning statements.now) rule.now }
 {
     let w = rule.weight;
     let [a, b, _, _] = rule.bodies;
@@ -139,7 +139,7 @@ fn two<G: Scale>(statements: &[Statement<G>], rule: &Rule<G>) -> G
 // What a rule with three bodies says.
 fn three<G: Scale>(statements: &[Statement<G>], rule: &Rule<G>) -> G
     requires { Stands Extent.Three rule.now.bodies }
-    ensures { result ≡ value_of_lem meaning (grades meaning statements.now) rule.now }
+    ensures { result ≡ value_of_lem G.meaning (grades G.meaning statements.now) rule.now }
 {
     let w = rule.weight;
     let [a, b, c, _] = rule.bodies;
@@ -164,7 +164,7 @@ fn three<G: Scale>(statements: &[Statement<G>], rule: &Rule<G>) -> G
 // What a rule with four bodies says.
 fn four<G: Scale>(statements: &[Statement<G>], rule: &Rule<G>) -> G
     requires { Stands Extent.Four rule.now.bodies }
-    ensures { result ≡ value_of_lem meaning (grades meaning statements.now) rule.now }
+    ensures { result ≡ value_of_lem G.meaning (grades G.meaning statements.now) rule.now }
 {
     let w = rule.weight;
     let [a, b, c, d] = rule.bodies;
@@ -191,7 +191,7 @@ fn four<G: Scale>(statements: &[Statement<G>], rule: &Rule<G>) -> G
 
 // What the rule says of its head: its weight alone if it has no body, else by its form.
 pub(crate) fn value<G: Scale>(statements: &[Statement<G>], rule: &Rule<G>) -> G
-    ensures { result ≡ value_of_lem meaning (grades meaning statements.now) rule.now }
+    ensures { result ≡ value_of_lem G.meaning (grades G.meaning statements.now) rule.now }
 {
     match standing(statements, &rule.bodies) {
         Extent::One => rule.weight.blend(grade_of(statements, rule.bodies[0])),

@@ -18,7 +18,7 @@ pub fn want<G: Scale>(
     rules: &[Rule<G>],
     s: u16,
 ) -> Result<(), Refusal>
-    ensures { (degree : ℕ → G) → Outcome meaning degree (Want s) (tables statements.old rules.now) (said NowWanted result) (tables statements.new rules.now) }
+    ensures { (degree : ℕ → G) → Outcome G.meaning degree (Want s) (tables statements.old rules.now) (said NowWanted result) (tables statements.new rules.now) }
 {
     check_tables(statements, rules)?;
     check_statement(statements, s)?;

@@ -21,7 +21,7 @@ fn check_withdraw<G: Scale>(
     rules: &[Rule<G>],
     k: u16,
 ) -> Result<(), Refusal>
-    ensures { refusal_of result ≡ first (call_checks meaning (Withdraw k) (tables statements.now rules.now)) }
+    ensures { refusal_of result ≡ first (call_checks G.meaning (Withdraw k) (tables statements.now rules.now)) }
 {
     if outside(rules.len(), k as usize) {
         return Err(Refusal::NoSuchMark);
@@ -38,7 +38,7 @@ pub fn withdraw<G: Scale>(
     rules: &mut [Rule<G>],
     k: u16,
 ) -> Result<(), Refusal>
-    ensures { (degree : ℕ → G) → Outcome meaning degree (Withdraw k) (tables statements.old rules.old) (said Withdrawn result) (tables statements.new rules.new) }
+    ensures { (degree : ℕ → G) → Outcome G.meaning degree (Withdraw k) (tables statements.old rules.old) (said Withdrawn result) (tables statements.new rules.new) }
 {
     check_tables(statements, rules)?;
     check_withdraw(statements, rules, k)?;

@@ -16,7 +16,7 @@ pub fn worth<V: Survey>(
     rules: &[Rule<V::Grade>],
     s: u16,
 ) -> V::Grade
-    ensures { result ≡ worth_of V.Grade.Scale.meaning (degrees survey.now) rules.now (grades V.Grade.Scale.meaning statements.now) s }
+    ensures { result ≡ worth_of V.Grade.Scale.meaning (V.degrees survey.now) rules.now (grades V.Grade.Scale.meaning statements.now) s }
 {
     let mut total = survey.degree(s);
     for rule in rules {

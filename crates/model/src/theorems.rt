@@ -7,21 +7,21 @@ use scales::Scale;
 
 // Grades at or above others give worths at or above theirs.
 pub fn worths_rise<G: Scale>() -> u8
-    ensures { (degree : ℕ → G) → WorthsRise meaning degree }
+    ensures { (degree : ℕ → G) → WorthsRise G.meaning degree }
 {
     0
 }
 
 // The rounds come to rest at the least model of the rules.
 pub fn the_least_model_is_least<G: Scale>() -> u8
-    ensures { (degree : ℕ → G) → LeastIsLeast meaning degree }
+    ensures { (degree : ℕ → G) → LeastIsLeast G.meaning degree }
 {
     0
 }
 
 // Each grade of the least model is its statement's worth.
 pub fn least_is_fixed<G: Scale>() -> u8
-    ensures { (degree : ℕ → G) → LeastIsFixed meaning degree }
+    ensures { (degree : ℕ → G) → LeastIsFixed G.meaning degree }
 {
     0
 }
@@ -35,14 +35,14 @@ pub fn leading_is_decided<G: Scale>() -> u8
 
 // A worth is the join of the survey's degree and the values of the statement's rules.
 pub fn a_worth_is_a_join<G: Scale>() -> u8
-    ensures { (degree : ℕ → G) → WorthIsJoin meaning degree }
+    ensures { (degree : ℕ → G) → WorthIsJoin G.meaning degree }
 {
     0
 }
 
 // What a rule of each form says.
 pub fn forms_are<G: Scale>() -> u8
-    ensures { FormsAre meaning }
+    ensures { FormsAre G.meaning }
 {
     0
 }

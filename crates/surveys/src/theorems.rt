@@ -19,7 +19,7 @@ pub fn a_ramp_is() -> u8
 
 // Of two surveys the better counts.
 pub fn a_joined_degree_is<G: Scale>() -> u8
-    ensures { JoinedIs meaning }
+    ensures { JoinedIs G.meaning }
 {
     0
 }

@@ -37,7 +37,7 @@ pub fn read_form(letter: u8, place: Place) -> Result<Form, FieldFault>
 // The weight whose code the field holds.
 pub fn read_weight<G: Written>(field: &[u8], place: Place) -> Result<G, FieldFault>
     requires { length field.now ≤ 5 }
-    ensures { field_risen result ≡ judged (weight_checks coding field.now place.line place.column) (weight_of G.Scale.meaning coding field.now) }
+    ensures { field_risen result ≡ judged (weight_checks G.coding field.now place.line place.column) (weight_of G.Scale.meaning G.coding field.now) }
 {
     let code = read_number(field, place)?;
     let none = FieldFault {

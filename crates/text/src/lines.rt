@@ -41,7 +41,7 @@ pub fn form_at(bytes: &[u8], line: usize) -> Result<Form, LineFault>
 // The weight whose code stands in the columns from 13 on.
 pub fn weight_at<G: Written>(bytes: &[u8], line: usize) -> Result<G, LineFault>
     requires { 17 ≤ length bytes.now }
-    ensures { line_risen result ≡ judged (weight_checks coding (five 13 bytes.now) line 13) (weight_of G.Scale.meaning coding (five 13 bytes.now)) }
+    ensures { line_risen result ≡ judged (weight_checks G.coding (five 13 bytes.now) line 13) (weight_of G.Scale.meaning G.coding (five 13 bytes.now)) }
 {
     Ok(read_weight::<G>(&bytes[12..17], Place { line, column: 13 })?)
 }

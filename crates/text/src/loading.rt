@@ -22,7 +22,7 @@ fn check_rules<G: Written>(
     statements: u16,
     places: u16,
 ) -> Result<(), Fault>
-    ensures { result ≡ judged (rows_checks coding statements places 0 2 count (drop start.entry.at start.entry.text.now)) tt }
+    ensures { result ≡ judged (rows_checks G.coding statements places 0 2 count (drop start.entry.at start.entry.text.now)) tt }
 {
     let mut reader = start;
     let mut last = 0;
@@ -43,8 +43,8 @@ fn check_rules<G: Written>(
 // The rules of a text that was found to be sound come to their places.
 fn fill_rules<G: Written>(start: Reader, count: u16, statements: u16, rules: &mut [Rule<G>])
     requires few { length rules.old ≤ 4096 }
-    requires sound { Unmet (rows_checks coding statements (length rules.old) 0 2 count (drop start.at start.text.now)) }
-    ensures { rules.new ≡ placed rules.old (rules_in G.Scale.meaning coding count (drop start.entry.at start.entry.text.now)) }
+    requires sound { Unmet (rows_checks G.coding statements (length rules.old) 0 2 count (drop start.at start.text.now)) }
+    ensures { rules.new ≡ placed rules.old (rules_in G.Scale.meaning G.coding count (drop start.entry.at start.entry.text.now)) }
 {
     let places = rules.len() as u16;
     let mut reader = start;
@@ -65,7 +65,7 @@ pub fn load<G: Written>(
     statements: &mut [Statement<G>],
     rules: &mut [Rule<G>],
 ) -> Result<u16, Fault>
-    ensures { Loads G.Scale.meaning coding text.now (tables statements.old rules.old) result (tables statements.new rules.new) }
+    ensures { Loads G.Scale.meaning G.coding text.now (tables statements.old rules.old) result (tables statements.new rules.new) }
 {
     check_lengths(statements, rules)?;
     let total = statements.len() as u16;

@@ -92,7 +92,7 @@ fn read_rule<G: Written>(
     places: u16,
 ) -> Result<Numbered<G>, Fault>
     requires { length bytes.now ≡ 37 }
-    ensures { result ≡ judged (rule_checks coding statements places last line bytes.now) (rule_in G.Scale.meaning coding bytes.now) }
+    ensures { result ≡ judged (rule_checks G.coding statements places last line bytes.now) (rule_in G.Scale.meaning G.coding bytes.now) }
 {
     check_due(bytes, line, b'R')?;
     let mark = read_mark(bytes, line, last, places)?;
@@ -130,7 +130,7 @@ pub fn next_rule<G: Written>(
     statements: u16,
     places: u16,
 ) -> Result<Numbered<G>, Fault>
-    ensures read { result ≡ judged (row_checks coding statements places last line (drop reader.old.at reader.old.text.now)) (rule_in G.Scale.meaning coding (take 37 (drop reader.old.at reader.old.text.now))) }
+    ensures read { result ≡ judged (row_checks G.coding statements places last line (drop reader.old.at reader.old.text.now)) (rule_in G.Scale.meaning G.coding (take 37 (drop reader.old.at reader.old.text.now))) }
     ensures rest { drop reader.new.at reader.new.text.now ≡ after 37 (drop reader.old.at reader.old.text.now) }
 {
     let bytes = next_line(reader, ROW, line)?;

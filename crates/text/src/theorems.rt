@@ -16,49 +16,49 @@ pub fn a_number_has_one_spelling() -> u8
 
 // A load has one answer, and leaves one board, to the bit.
 pub fn a_load_has_one_outcome<G: Written>() -> u8
-    ensures { LoadHasOneOutcome G.Scale.meaning coding }
+    ensures { LoadHasOneOutcome G.Scale.meaning G.coding }
 {
     0
 }
 
 // A refused load leaves the tables, and its fault is a row of the table of refusals.
 pub fn faults_are_rows<G: Written>() -> u8
-    ensures { FaultsAreRows G.Scale.meaning coding }
+    ensures { FaultsAreRows G.Scale.meaning G.coding }
 {
     0
 }
 
 // Where a row of the table of refusals holds of a text, its load is refused.
 pub fn rows_are_refused<G: Written>() -> u8
-    ensures { RowsAreRefused G.Scale.meaning coding }
+    ensures { RowsAreRefused G.Scale.meaning G.coding }
 {
     0
 }
 
 // Two texts that load to the same rules are the same text.
 pub fn a_collection_has_one_spelling<G: Written>() -> u8
-    ensures { OneSpelling G.Scale.meaning coding }
+    ensures { OneSpelling G.Scale.meaning G.coding }
 {
     0
 }
 
 // A load of what a write wrote gives the rules back, as grades.
 pub fn what_is_written_loads<G: Written>() -> u8
-    ensures { LoadAfterWrite G.Scale.meaning coding }
+    ensures { LoadAfterWrite G.Scale.meaning G.coding }
 {
     0
 }
 
 // A write of what a load read gives the text back.
 pub fn what_is_loaded_writes<G: Written>() -> u8
-    ensures { WriteAfterLoad G.Scale.meaning coding }
+    ensures { WriteAfterLoad G.Scale.meaning G.coding }
 {
     0
 }
 
 // A loaded board is the one that a clear and adds of its rules in rising marks leave, so it keeps the whole promise.
 pub fn a_loaded_board_has_a_past<G: Written>() -> u8
-    ensures { (degree : ℕ → G) → LoadedPast G.Scale.meaning coding degree }
+    ensures { (degree : ℕ → G) → LoadedPast G.Scale.meaning G.coding degree }
 {
     0
 }

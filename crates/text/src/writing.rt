@@ -26,7 +26,7 @@ fn write_header(statements: u32, rules: u32, out: &mut [u8])
 // Writes the line of the rule with the mark at the front of `out`, and leaves the rest alone.
 fn write_rule<G: Written>(mark: u16, rule: &Rule<G>, out: &mut [u8])
     requires { 38 ≤ length out.old }
-    ensures { out.new ≡ row_bytes coding (numbered mark rule.now) ++ drop 38 out.old }
+    ensures { out.new ≡ row_bytes G.coding (numbered mark rule.now) ++ drop 38 out.old }
 {
     let bodies = rule.bodies;
     out[0] = b'R';
@@ -58,7 +58,7 @@ fn count_rules<G: Written>(rules: &[Rule<G>]) -> usize
 fn write_rules<G: Written>(rules: &[Rule<G>], out: &mut [u8])
     requires few { length rules.now ≤ 4096 }
     requires room { 38 * length (held 1 rules.now) ≤ length out.old }
-    ensures { out.new ≡ flat_map (row_bytes coding) (held 1 rules.now) ++ drop (38 * length (held 1 rules.now)) out.old }
+    ensures { out.new ≡ flat_map (row_bytes G.coding) (held 1 rules.now) ++ drop (38 * length (held 1 rules.now)) out.old }
 {
     let mut at = 0;
     let mut mark: u16 = 0;
@@ -77,7 +77,7 @@ pub fn write<G: Written>(
     rules: &[Rule<G>],
     buffer: &mut [u8],
 ) -> Result<usize, Refusal>
-    ensures { Writes coding (tables statements.now rules.now) buffer.old result buffer.new }
+    ensures { Writes G.coding (tables statements.now rules.now) buffer.old result buffer.new }
 {
     check_tables(statements, rules)?;
     let held = count_rules(rules);

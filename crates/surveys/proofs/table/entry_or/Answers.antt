@@ -1,4 +1,4 @@
-use Rattle.std.proofs.Common.{sym, ⊎_elim, arith, rules}
+use Rattle.std.proofs.Common.{rules}
 use Rattle.std.proofs.lemmas.List.{get_or_past}
 use Rattle.surveys.proofs.table.entry_or.Goals as goal
 

@@ -1,4 +1,4 @@
-use Rattle.std.proofs.Common.{◌-◌, ◌*◌, ◌/◌, ◌≤◌, arith}
+use Rattle.std.proofs.Common.{◌-◌, ◌*◌, ◌≤◌, arith}
 use native.Mathlib.Nat.{div-le_of_le-mul}
 use Rattle.surveys.proofs.ramp.Ramp.grade.Goals as goal
 
