@@ -1,5 +1,5 @@
 -- The digits of a number: what is put in, where the lowest is, and what trimming leaves.
-use Rattle.std.proofs.Common.{◌≡◌, ℕ, zero, suc, ◌+◌, ◌-◌, ◌*◌, ◌/◌, ◌%◌, ◌^◌, ◌<◌, ◌≤◌, min, max, ◌⊎◌, List, length, get_or, set, sym, refl, ap, ◌∙◌, subst, inl, inr, ⊎_elim, pow-suc, div-one, one-add, arith, length-set}
+use Rattle.std.proofs.Common.{◌≡◌, ℕ, zero, suc, ◌-◌, ◌/◌, ◌%◌, ◌^◌, ◌<◌, ◌≤◌, min, max, List, length, get_or, sym, refl, ap, ◌∙◌, ⊎_elim, pow-suc, div-one, one-add, arith, length-set}
 use lib.Bits.{bit_and, bit_or, and_step, or_step, and_shr, or_shr, and_self, and_le_r}
 use lib.Count.{count_trailing_zeros, under, trailing_of_zero}
 use Rattle.std.proofs.lemmas.Nat.{shr-shr, shl-shr}

@@ -6,7 +6,7 @@
 --     trimmed n           n without its lowest digit that is 1
 --     TrimmingIs         what is left of a number by trimming: the digits that stand above another one that is 1
 --     PuttingIs          what putting a number in does: it is in the set then, and the others are as they were
-use Rattle.std.specs.Prelude.{◌≡◌, ℕ, ◌-◌, ◌/◌, ◌%◌, ◌^◌, ◌<◌, Bool, List, length, set, ◌==◌, ◌≢◌, bit_and, bit_or, slice_index, slice_set}
+use Rattle.std.specs.Prelude.{◌≡◌, ℕ, ◌-◌, ◌/◌, ◌%◌, ◌^◌, ◌<◌, Bool, List, length, ◌==◌, ◌≢◌, bit_and, bit_or, slice_index, slice_set}
 
 abbrev pub digit : ℕ → ℕ → ℕ
 digit k n = n / 2 ^ k % 2

@@ -1,5 +1,5 @@
 -- A finish that answers k leaves the tables that k accepted steps leave.
-use Rattle.std.proofs.Common.{◌≡◌, ℕ, sym}
+use Rattle.std.proofs.Common.{ℕ, sym}
 use Rattle.scales.specs.Meaning.{Meaning}
 use Rattle.pasts.specs.Tables.{Tables, table_checks}
 use Rattle.pasts.specs.Calls.{Runs, none, more, finishes, done}

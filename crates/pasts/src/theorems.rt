@@ -8,70 +8,70 @@ use surveys::Survey;
 
 // After every past the whole promise holds.
 pub fn every_past_keeps_its_promise<V: Survey>(survey: &V) -> u8
-    ensures { KeepsItsPromise Grade-as-Scale.meaning (V.degrees survey.now) }
+    ensures { KeepsItsPromise V.Grade.Scale.meaning (V.degrees survey.now) }
 {
     0
 }
 
 // After every past the tables are sound.
 pub fn every_past_is_sound<V: Survey>(survey: &V) -> u8
-    ensures { StaysSound Grade-as-Scale.meaning (V.degrees survey.now) }
+    ensures { StaysSound V.Grade.Scale.meaning (V.degrees survey.now) }
 {
     0
 }
 
 // On tables within their limits a call is refused only for what it asks.
 pub fn every_past_is_usable<V: Survey>(survey: &V) -> u8
-    ensures { StaysUsable Grade-as-Scale.meaning (V.degrees survey.now) }
+    ensures { StaysUsable V.Grade.Scale.meaning (V.degrees survey.now) }
 {
     0
 }
 
 // The rules in the table are those in force.
 pub fn every_past_keeps_its_shelf<V: Survey>(survey: &V) -> u8
-    ensures { KeepsItsShelf Grade-as-Scale.meaning (V.degrees survey.now) }
+    ensures { KeepsItsShelf V.Grade.Scale.meaning (V.degrees survey.now) }
 {
     0
 }
 
 // Where none is active, a read of an open statement is accepted and answers its least grade as settled.
 pub fn a_read_is_settled<V: Survey>(survey: &V) -> u8
-    ensures { ReadIsSettled Grade-as-Scale.meaning (V.degrees survey.now) }
+    ensures { ReadIsSettled V.Grade.Scale.meaning (V.degrees survey.now) }
 {
     0
 }
 
 // After a finish a read of each wanted statement answers its least grade as settled.
 pub fn wants_are_served<V: Survey>(survey: &V) -> u8
-    ensures { WantsAreServed Grade-as-Scale.meaning (V.degrees survey.now) }
+    ensures { WantsAreServed V.Grade.Scale.meaning (V.degrees survey.now) }
 {
     0
 }
 
 // What a resting statement has depends on the rules in force alone.
 pub fn a_past_is_forgotten<V: Survey>(survey: &V) -> u8
-    ensures { PastIsForgotten Grade-as-Scale.meaning (V.degrees survey.now) }
+    ensures { PastIsForgotten V.Grade.Scale.meaning (V.degrees survey.now) }
 {
     0
 }
 
 // Boards with the same rules in force, under whatever marks, agree on each statement that rests on both.
 pub fn same_rules_agree<V: Survey>(survey: &V) -> u8
-    ensures { SameRulesAgree Grade-as-Scale.meaning (V.degrees survey.now) }
+    ensures { SameRulesAgree V.Grade.Scale.meaning (V.degrees survey.now) }
 {
     0
 }
 
 // A call has no two outcomes.
 pub fn a_call_has_one_outcome<V: Survey>(survey: &V) -> u8
-    ensures { (t : _) → OneOutcome Grade-as-Scale.meaning (V.degrees survey.now) t }
+    ensures { (t : _) → OneOutcome V.Grade.Scale.meaning (V.degrees survey.now) t }
 {
     0
 }
 
 // Every call on any tables has an outcome; so a finish ends.
 pub fn a_call_has_some_outcome<V: Survey>(survey: &V) -> u8
-    ensures { (t : _) → SomeOutcome Grade-as-Scale.meaning (V.degrees survey.now) t }
+    ensures { (t : _) → SomeOutcome V.Grade.Scale.meaning (V.degrees survey.now) t }
 {
     0
 }
@@ -85,56 +85,56 @@ pub fn a_clear_has_one_outcome<G: Scale>() -> u8
 
 // A withdraw alters only open statements that lead to the withdrawn rule's head.
 pub fn a_withdraw_is_local<V: Survey>(survey: &V) -> u8
-    ensures { (t : _) → WithdrawIsLocal Grade-as-Scale.meaning (V.degrees survey.now) t }
+    ensures { (t : _) → WithdrawIsLocal V.Grade.Scale.meaning (V.degrees survey.now) t }
 {
     0
 }
 
 // An add alters no grade, and no mark but its head's.
 pub fn an_add_is_local<V: Survey>(survey: &V) -> u8
-    ensures { (t : _) → AddIsLocal Grade-as-Scale.meaning (V.degrees survey.now) t }
+    ensures { (t : _) → AddIsLocal V.Grade.Scale.meaning (V.degrees survey.now) t }
 {
     0
 }
 
 // A want alters no grade, and no mark but that of the unopened statement that it asks for.
 pub fn a_want_is_local<V: Survey>(survey: &V) -> u8
-    ensures { (t : _) → WantIsLocal Grade-as-Scale.meaning (V.degrees survey.now) t }
+    ensures { (t : _) → WantIsLocal V.Grade.Scale.meaning (V.degrees survey.now) t }
 {
     0
 }
 
 // A finish takes at most so many steps as its budget.
 pub fn a_finish_is_bounded<V: Survey>(survey: &V) -> u8
-    ensures { (t : _) → FinishIsBounded Grade-as-Scale.meaning (V.degrees survey.now) t }
+    ensures { (t : _) → FinishIsBounded V.Grade.Scale.meaning (V.degrees survey.now) t }
 {
     0
 }
 
 // A finish that answers k leaves what k accepted steps leave.
 pub fn a_finish_counts_its_steps<V: Survey>(survey: &V) -> u8
-    ensures { (t : _) → FinishCounts Grade-as-Scale.meaning (V.degrees survey.now) t }
+    ensures { (t : _) → FinishCounts V.Grade.Scale.meaning (V.degrees survey.now) t }
 {
     0
 }
 
 // The number that a finish answers fits its type.
 pub fn a_finish_fits<V: Survey>(survey: &V) -> u8
-    ensures { (t : _) → FinishFits Grade-as-Scale.meaning (V.degrees survey.now) t }
+    ensures { (t : _) → FinishFits V.Grade.Scale.meaning (V.degrees survey.now) t }
 {
     0
 }
 
 // A refusal leaves the tables, and its number says what was amiss.
 pub fn refusals_are_rows<V: Survey>(survey: &V) -> u8
-    ensures { (t : _) → RefusalsAreRows Grade-as-Scale.meaning (V.degrees survey.now) t }
+    ensures { (t : _) → RefusalsAreRows V.Grade.Scale.meaning (V.degrees survey.now) t }
 {
     0
 }
 
 // Where a row of the table of refusals holds, the call is refused.
 pub fn rows_are_refused<V: Survey>(survey: &V) -> u8
-    ensures { (t : _) → RowsAreRefused Grade-as-Scale.meaning (V.degrees survey.now) t }
+    ensures { (t : _) → RowsAreRefused V.Grade.Scale.meaning (V.degrees survey.now) t }
 {
     0
 }
@@ -148,14 +148,14 @@ pub fn a_clear_has_one_row<G: Scale>() -> u8
 
 // What an add, a withdraw and a want make active.
 pub fn calls_wake<V: Survey>(survey: &V) -> u8
-    ensures { (t : _) → Wakes Grade-as-Scale.meaning (V.degrees survey.now) t }
+    ensures { (t : _) → Wakes V.Grade.Scale.meaning (V.degrees survey.now) t }
 {
     0
 }
 
 // The number of a refusal says what the checks before it found too.
 pub fn refusals_are_due<V: Survey>(survey: &V) -> u8
-    ensures { (t : _) → RefusalsAreDue Grade-as-Scale.meaning (V.degrees survey.now) t }
+    ensures { (t : _) → RefusalsAreDue V.Grade.Scale.meaning (V.degrees survey.now) t }
 {
     0
 }

@@ -19,7 +19,7 @@ take-requires g c = c.requires.on.0
 
 pub open_once-requires : goal.open_once-requires
 open_once-requires g c =
-    let m = g.Grade.Scale.meaning in
+    let m = g.V.Grade.Scale.meaning in
     let xs = c.args.statements.now in
     record {
       named = c.requires.on.0;

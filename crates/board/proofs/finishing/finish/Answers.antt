@@ -9,11 +9,11 @@ use Rattle.board.proofs.finishing.finish.Goals as goal
 pub returns-in_err-check_tables : goal.returns-in_err-check_tables
 returns-in_err-check_tables g c =
     rw (exit_err _ c.from_residual.result c.from_residual.ensures.1)
-    (call_unsound g.Grade.Scale.meaning (g.V.Survey.degrees c.args.survey.now) (tables c.args.statements.now c.args.rules.now) Finish _ c.in_err-check_tables.ensures)
+    (call_unsound g.V.Grade.Scale.meaning (g.V.Survey.degrees c.args.survey.now) (tables c.args.statements.now c.args.rules.now) Finish _ c.in_err-check_tables.ensures)
 
 pub returns : goal.returns
 returns g c =
-    finish_done g.Grade.Scale.meaning (g.V.Survey.degrees c.args.survey.now) (tables c.args.statements.now c.args.rules.now) c.run_indexed.result (tables c.run_indexed.new.statements c.args.rules.now) c.in_ok-check_tables.ensures c.run_indexed.ensures
+    finish_done g.V.Grade.Scale.meaning (g.V.Survey.degrees c.args.survey.now) (tables c.args.statements.now c.args.rules.now) c.run_indexed.result (tables c.run_indexed.new.statements c.args.rules.now) c.in_ok-check_tables.ensures c.run_indexed.ensures
 
 pub run_indexed-requires : goal.run_indexed-requires
 run_indexed-requires g c =

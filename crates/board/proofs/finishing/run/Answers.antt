@@ -27,20 +27,20 @@ advance_noted-requires g c =
 
 pub overflow_add-count : goal.overflow_add-count
 overflow_add-count g c =
-    let laws = g.met.Grade.Scale.laws in
+    let laws = g.met.V.Grade.Scale.laws in
     omega (arith, run_spent laws c.loop-s.invariant.0, measure_fits laws (tables c.args.statements.now c.args.rules.now) c.requires.few)
 
 pub loop-s-smaller : goal.loop-s-smaller
 loop-s-smaller g c =
     let d = g.V.Survey.degrees c.args.survey.now in
-    measure_falls g.met.Grade.Scale.laws d (advance_steps g.Grade.Scale.meaning d c.args.rules.now c.loop-s.statements c.in-Some.s _ c.advance_noted.new.statements c.in-Some.ensures.picks refl c.advance_noted.ensures.after)
+    measure_falls g.met.V.Grade.Scale.laws d (advance_steps g.V.Grade.Scale.meaning d c.args.rules.now c.loop-s.statements c.in-Some.s _ c.advance_noted.new.statements c.in-Some.ensures.picks refl c.advance_noted.ensures.after)
 
 pub loop-s-preserved : goal.loop-s-preserved
 loop-s-preserved g c =
-    let step = advance_steps g.Grade.Scale.meaning (g.V.Survey.degrees c.args.survey.now) c.args.rules.now c.loop-s.statements c.in-Some.s _ c.advance_noted.new.statements c.in-Some.ensures.picks refl c.advance_noted.ensures.after in (
+    let step = advance_steps g.V.Grade.Scale.meaning (g.V.Survey.degrees c.args.survey.now) c.args.rules.now c.loop-s.statements c.in-Some.s _ c.advance_noted.new.statements c.in-Some.ensures.picks refl c.advance_noted.ensures.after in (
       runs_more c.loop-s.invariant.0 step,
       c.advance_noted.ensures.noted,
-      sons_stay g.Grade.Scale.meaning step (Has c.loop-s.opened) (Has c.advance_noted.new.opened) c.loop-s.invariant.2 c.advance_noted.ensures.opened,
+      sons_stay g.V.Grade.Scale.meaning step (Has c.loop-s.opened) (Has c.advance_noted.new.opened) c.loop-s.invariant.2 c.advance_noted.ensures.opened,
     )
 
 pub returns : goal.returns

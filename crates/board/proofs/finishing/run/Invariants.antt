@@ -8,9 +8,9 @@ use Rattle.board.proofs.finishing.run.Given as goal
 
 abbrev pub invariant-loop-s : goal.invariant-loop-s
 invariant-loop-s g l =
-    Runs g.Grade.Scale.meaning (g.V.Survey.degrees l.survey) l.count (tables l.initial.statements l.rules) (tables l.statements l.rules)
-    × Noted g.Grade.Scale.meaning l.words l.statements
-    × ((r : ℕ) → 1 ≤ r → Has l.opened (r - 1) → SonsOpen g.Grade.Scale.meaning l.rules l.statements r)
+    Runs g.V.Grade.Scale.meaning (g.V.Survey.degrees l.survey) l.count (tables l.initial.statements l.rules) (tables l.statements l.rules)
+    × Noted g.V.Grade.Scale.meaning l.words l.statements
+    × ((r : ℕ) → 1 ≤ r → Has l.opened (r - 1) → SonsOpen g.V.Grade.Scale.meaning l.rules l.statements r)
 
 abbrev pub decreases-loop-s : goal.decreases-loop-s
-decreases-loop-s g l = measure g.Grade.Scale.meaning (tables l.statements l.rules)
+decreases-loop-s g l = measure g.V.Grade.Scale.meaning (tables l.statements l.rules)

@@ -14,7 +14,7 @@ chain_heads-requires g c =
     record {
       few = c.requires.places;
       room = c.requires.places;
-      keyed = λ k h. let l = heads_keyed n rs k (blank g.Grade.Scale.meaning) c.requires.formed h in omega arith;
+      keyed = λ k h. let l = heads_keyed n rs k (blank g.V.Grade.Scale.meaning) c.requires.formed h in omega arith;
       empty = filled_at 1025 (length rs) c.no_places-first.result c.no_places-first.ensures;
     }
 
@@ -52,6 +52,6 @@ chain_uses-requires g c =
     record {
       few = c.requires.places;
       room = omega arith;
-      keyed = λ k h. let l = uses_keyed n rs k (blank g.Grade.Scale.meaning) c.requires.formed h in omega arith;
+      keyed = λ k h. let l = uses_keyed n rs k (blank g.V.Grade.Scale.meaning) c.requires.formed h in omega arith;
       empty = filled_at 1025 (4 * length rs) c.no_places-first_use.result c.no_places-first_use.ensures;
     }

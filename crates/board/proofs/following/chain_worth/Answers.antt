@@ -11,7 +11,7 @@ use Rattle.board.proofs.following.chain_worth.Goals as goal
 
 pub loop-k-init : goal.loop-k-init
 loop-k-init g c =
-    let m = g.Grade.Scale.meaning in
+    let m = g.V.Grade.Scale.meaning in
     let at = grades m c.args.statements.now in
     let rs = c.args.rules.now in
     let s = c.args.s in
@@ -22,7 +22,7 @@ loop-k-init g c =
 
 pub loop-k-preserved : goal.loop-k-preserved
 loop-k-preserved g c =
-    let m = g.Grade.Scale.meaning in
+    let m = g.V.Grade.Scale.meaning in
     let at = grades m c.args.statements.now in
     let rs = c.args.rules.now in
     let s = c.args.s in
@@ -47,7 +47,7 @@ loop-k-smaller g c =
 
 pub returns : goal.returns
 returns g c =
-    let m = g.Grade.Scale.meaning in
+    let m = g.V.Grade.Scale.meaning in
     let at = grades m c.args.statements.now in
     let rs = c.args.rules.now in
     let s = c.args.s in

@@ -13,7 +13,7 @@ pub loop-entry-init : goal.loop-entry-init
 loop-entry-init g c =
     let t = tables c.args.statements.now c.args.rules.now in
     let u = tables c.clear.new.statements c.clear.new.rules in
-    let P : ℕ → ℕ → Type 0 = λ n p. Past g.Grade.Scale.meaning (g.V.Survey.degrees c.args.survey.now) n p [] u in
+    let P : ℕ → ℕ → Type 0 = λ n p. Past g.V.Grade.Scale.meaning (g.V.Survey.degrees c.args.survey.now) n p [] u in
     (subst₂ P (sym c.clear.auto.statements) (sym c.clear.auto.rules) (past_none {t = t} {u = u} c.in_ok-clear.ensures), refl)
 
 pub loop-entry-preserved : goal.loop-entry-preserved
@@ -27,4 +27,4 @@ pub returns : goal.returns
 returns g c =
     let t = tables c.args.statements.now c.args.rules.now in
     let u = tables c.loop-entry.statements c.loop-entry.rules in
-    replay_done g.met.Grade.Scale.laws t u c.args.entries.now c.loop-entry.entries c.loop-entry.entry-index (cleared_none c.in_ok-clear.ensures) c.clear.auto.statements c.clear.auto.rules (omega arith) c.loop-entry.invariant.1 c.loop-entry.invariant.0
+    replay_done g.met.V.Grade.Scale.laws t u c.args.entries.now c.loop-entry.entries c.loop-entry.entry-index (cleared_none c.in_ok-clear.ensures) c.clear.auto.statements c.clear.auto.rules (omega arith) c.loop-entry.invariant.1 c.loop-entry.invariant.0

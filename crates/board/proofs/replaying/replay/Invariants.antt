@@ -6,5 +6,5 @@ use Rattle.board.proofs.replaying.replay.Given as goal
 
 abbrev pub invariant-loop-entry : goal.invariant-loop-entry
 invariant-loop-entry g l =
-    Past g.Grade.Scale.meaning (g.V.Survey.degrees l.survey) (length l.initial.statements) (length l.initial.rules) (reverse (take l.entry-index l.entries)) (tables l.statements l.rules)
+    Past g.V.Grade.Scale.meaning (g.V.Survey.degrees l.survey) (length l.initial.statements) (length l.initial.rules) (reverse (take l.entry-index l.entries)) (tables l.statements l.rules)
     × (calls l.entries ≡ calls l.initial.entries)

@@ -9,15 +9,15 @@ use Rattle.board.proofs.stepping.step.Goals as goal
 pub returns-in_err-check_tables : goal.returns-in_err-check_tables
 returns-in_err-check_tables g c =
     rw (exit_err _ c.from_residual.result c.from_residual.ensures.1)
-    (call_unsound g.Grade.Scale.meaning (g.V.Survey.degrees c.args.survey.now) (tables c.args.statements.now c.args.rules.now) Step _ c.in_err-check_tables.ensures)
+    (call_unsound g.V.Grade.Scale.meaning (g.V.Survey.degrees c.args.survey.now) (tables c.args.statements.now c.args.rules.now) Step _ c.in_err-check_tables.ensures)
 
 pub returns-in-None : goal.returns-in-None
 returns-in-None g c =
-    step_idle g.Grade.Scale.meaning (g.V.Survey.degrees c.args.survey.now) (tables c.args.statements.now c.args.rules.now) c.in_ok-check_tables.ensures c.in-None.ensures
+    step_idle g.V.Grade.Scale.meaning (g.V.Survey.degrees c.args.survey.now) (tables c.args.statements.now c.args.rules.now) c.in_ok-check_tables.ensures c.in-None.ensures
 
 pub returns-in-Some : goal.returns-in-Some
 returns-in-Some g c =
-    let m = g.Grade.Scale.meaning in
+    let m = g.V.Grade.Scale.meaning in
     let d = g.V.Survey.degrees c.args.survey.now in
     let xs = c.args.statements.now in
     let rs = c.args.rules.now in

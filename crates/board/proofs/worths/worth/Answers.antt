@@ -7,7 +7,7 @@ use Rattle.board.proofs.worths.worth.Goals.{then-rule-s, else-rule-s}
 
 pub loop-rule-preserved : goal.loop-rule-preserved
 loop-rule-preserved g c =
-    let m = g.Grade.Scale.meaning in
+    let m = g.V.Grade.Scale.meaning in
     let at = grades m c.args.statements.now in
     let rs = c.args.rules.now in
     let i = c.loop-rule.rule-index in
@@ -22,7 +22,7 @@ loop-rule-preserved g c =
 
 pub returns : goal.returns
 returns g c =
-    let m = g.Grade.Scale.meaning in
+    let m = g.V.Grade.Scale.meaning in
     let at = grades m c.args.statements.now in
     let rs = c.args.rules.now in
     let J = joined m at c.args.s in

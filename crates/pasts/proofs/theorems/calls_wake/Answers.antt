@@ -2,4 +2,4 @@ use Rattle.pasts.proofs.Local.{wakes}
 use Rattle.pasts.proofs.theorems.calls_wake.Goals as goal
 
 pub returns : goal.returns
-returns g c = wakes g.Grade.Scale.meaning _
+returns g c = wakes g.V.Grade.Scale.meaning _
