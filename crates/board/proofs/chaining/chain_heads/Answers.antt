@@ -1,4 +1,4 @@
-use Rattle.std.proofs.Common.{◌≡◌, ℕ, ◌-◌, ◌<◌, length, get_or, sym, ap, ◌∙◌, arith}
+use Rattle.std.proofs.Common.{◌-◌, ◌<◌, length, get_or, arith}
 use Rattle.index.specs.Uses.{heads}
 use Rattle.index.proofs.Chains.{linked, unlinked}
 use Rattle.std.proofs.lemmas.List.{length-map, get_or-map}

@@ -1,9 +1,6 @@
-use Rattle.std.proofs.Common.{◌≡◌, ◌-◌, Bool, true, List, sym, ap, ◌∙◌, subst, arith}
+use Rattle.std.proofs.Common.{◌-◌, arith}
 use Rattle.std.proofs.lemmas.Bool.{both_ways}
-use Rattle.pasts.specs.Marks.{active, answered}
 use Rattle.pasts.specs.Tables.{entered}
-use Rattle.pasts.specs.declared.statement.Event.TheVariants.{Taken}
-use Rattle.board.specs.Indexed.{Noted}
 use Rattle.board.proofs.Noted.{noted_set, taken_rests}
 use Rattle.board.proofs.Opened.{sons_taken}
 use Rattle.board.proofs.finishing.advance_noted.Goals as goal

@@ -44,4 +44,4 @@ loop-s-preserved g c =
     )
 
 pub returns : goal.returns
-returns g c = record { steps = c.loop-s.invariant.0; still = c.in-default.ensures.picks }
+returns g c = record { steps = c.loop-s.invariant.0; still = c.in_default.ensures.picks }

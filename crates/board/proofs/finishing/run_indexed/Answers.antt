@@ -1,6 +1,5 @@
-use Rattle.std.proofs.Common.{◌≡◌, ◌*◌, ◌≤◌, length, get_or, arith}
+use Rattle.std.proofs.Common.{◌≡◌, ◌*◌, ◌≤◌, length, arith}
 use Rattle.pasts.specs.Tables.{blank}
-use Rattle.index.specs.Uses.{heads, uses, used}
 use Rattle.board.proofs.Noted.{none_in}
 use Rattle.board.proofs.Chained.{heads_keyed, uses_keyed, filled_length, filled_at}
 use Rattle.board.proofs.finishing.run_indexed.Goals as goal

@@ -1,4 +1,4 @@
-use Rattle.std.proofs.Common.{◌≡◌, ℕ, ◌+◌, ◌/◌, ◌%◌, ◌<◌, length, get_or, drop, sym, ap, ◌∙◌, arith}
+use Rattle.std.proofs.Common.{◌+◌, ◌/◌, ◌%◌, get_or, drop, sym, ap, ◌∙◌, arith}
 use Rattle.board.specs.Telling.{all_told}
 use Rattle.index.specs.Chains.{place}
 use Rattle.index.specs.Uses.{uses, used, users, use_by}

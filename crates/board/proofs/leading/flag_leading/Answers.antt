@@ -1,6 +1,5 @@
-use Rattle.std.proofs.Common.{◌≡◌, ℕ, ◌-◌, ◌≤◌, Bool, true, false, List, length, set, sym, ◌∙◌, subst, ⊎_elim, arith, length-set}
+use Rattle.std.proofs.Common.{◌≡◌, ℕ, Bool, false, List, length, set, sym, subst, ⊎_elim, arith, length-set}
 use Rattle.model.specs.Formed.{malformed}
-use Rattle.board.specs.Flags.{flagged}
 use Rattle.board.proofs.Spread.{Spreading, spreading_first, spreading_more, all_lead}
 use Rattle.board.proofs.leading.flag_leading.Goals as goal
 

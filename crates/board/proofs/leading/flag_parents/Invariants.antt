@@ -1,4 +1,4 @@
-use Rattle.std.proofs.Common.{◌≡◌, ℕ, ◌+◌, ◌-◌, ◌*◌, ◌<◌, ◌≤◌, true, not, ◌⊎◌, length, get_or, drop, count_by}
+use Rattle.std.proofs.Common.{◌≡◌, ℕ, ◌-◌, ◌*◌, ◌<◌, ◌≤◌, true, ◌⊎◌, length, get_or, drop}
 use Rattle.model.specs.Rules.{holds}
 use Rattle.index.specs.Uses.{uses, used, users}
 use Rattle.board.specs.Flags.{flagged, Grown}

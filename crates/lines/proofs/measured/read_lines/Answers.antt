@@ -16,7 +16,7 @@ loop-bytes-preserved c = (
 )
 
 pub returns-in-Some-ends : goal.returns-in-Some-ends
-returns-in-Some-ends c = c.loop-bytes.invariant.1 _ (ended c.loop-bytes.ends c.in-default.ensures.parts _ _ c.in-Some-ends.is)
+returns-in-Some-ends c = c.loop-bytes.invariant.1 _ (ended c.loop-bytes.ends c.in_default.ensures.parts _ _ c.in-Some-ends.is)
 
 pub returns-in-None : goal.returns-in-None
-returns-in-None c = c.loop-bytes.invariant.1 _ (bare_end c.loop-bytes.ends c.in-default.ensures.parts c.in-None.is)
+returns-in-None c = c.loop-bytes.invariant.1 _ (bare_end c.loop-bytes.ends c.in_default.ensures.parts c.in-None.is)

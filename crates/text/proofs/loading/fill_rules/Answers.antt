@@ -17,7 +17,7 @@ loop-i-init g c =
 pub unreachable-requires : goal.unreachable-requires
 unreachable-requires g c =
     let rest = drop c.loop-i.reader.at c.loop-i.reader.text.now in
-    never g.G.Scale.meaning g.G.Written.coding c.args.statements (length c.args.rules.now) c.loop-i.last c.loop-i.i c.args.count rest _ c.loop-i-test.true c.loop-i.invariant.0 c.in-default.ensures.read
+    never g.G.Scale.meaning g.G.Written.coding c.args.statements (length c.args.rules.now) c.loop-i.last c.loop-i.i c.args.count rest _ c.loop-i-test.true c.loop-i.invariant.0 c.in_default.ensures.read
 
 pub put-requires : goal.put-requires
 put-requires g c =
