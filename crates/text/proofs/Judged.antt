@@ -3,7 +3,6 @@ use Rattle.std.proofs.Common.{◌≡◌, ℕ, Bool, true, false, cond, List, [],
 use Rattle.model.proofs.Cases.{by_test}
 use Rattle.std.proofs.lemmas.Bool.{cond-true, cond-false}
 use Rattle.text.specs.Faults.{Check, Unmet, judged, report, FirstMet, here, later}
-use Rattle.text.specs.declared.faults.Report.{Report}
 use Rattle.text.specs.declared.faults.Fault.{Fault}
 
 skip : {X : Type 0} (b : Bool) (f : Fault) (r : Result X Fault) (z : X) → Ok z ≡ cond b (Err f) r → (b ≡ false) × (Ok z ≡ r)

@@ -1,5 +1,5 @@
 -- What a load does, from its checks.
-use Rattle.std.proofs.Common.{◌≡◌, ℕ, ◌≤◌, Bool, true, false, cond, ◌||◌, List, [], ◌∷◌, ◌++◌, length, take, drop, replicate, Some, None, Ok, Err, Option, Result, sym, refl, ap, ◌∙◌, subst, arith}
+use Rattle.std.proofs.Common.{◌≡◌, ℕ, Bool, true, false, cond, ◌||◌, List, [], ◌∷◌, ◌++◌, length, drop, replicate, Some, None, Ok, Err, Option, Result, sym, refl, ap, ◌∙◌, subst, arith}
 use Rattle.std.proofs.lemmas.List.{append-nil}
 use Rattle.std.proofs.lemmas.Bool.{cond-false}
 use Rattle.scales.specs.Meaning.{Meaning}
@@ -12,18 +12,16 @@ use Rattle.pasts.specs.declared.refusal.Refusal.{Refusal}
 use Rattle.pasts.specs.declared.refusal.Refusal.TheVariants.{TableLength}
 use Rattle.pasts.specs.declared.statement.Statement.{Statement}
 use Rattle.pasts.proofs.Checked.{none_met}
-use Rattle.text.specs.Boards.{Fits, board, held, placed, AllAlike}
+use Rattle.text.specs.Boards.{board, placed, AllAlike}
 use Rattle.text.specs.Faults.{Check, check, at_no_place, judged, Unmet}
 use Rattle.text.specs.Lines.{cut, after}
 use Rattle.text.specs.Loads.{Loads}
 use Rattle.text.specs.Rows.{rule_count, rules_in, rules_of, header_checks, rows_checks, text_checks}
-use Rattle.text.specs.Spelling.{spelling}
 use Rattle.text.specs.declared.faults.Fault.{Fault}
-use Rattle.text.specs.declared.numbered.Numbered.{Numbered}
 use Rattle.text.proofs.Judged as judging
 use Rattle.text.proofs.PlacedHeld.{board_held}
 use Rattle.text.proofs.TextsBack.{text_good, text_back, count_back}
-use Rattle.text.proofs.TextsSpelled.{text_fits, text_decoded, text_spelled, rows_length, text_within}
+use Rattle.text.proofs.TextsSpelled.{text_fits, text_decoded, text_spelled, rows_length}
 
 ok_err : {X E : Type 0} (x : X) (e : E) → ◌≡◌ {A = Result X E} (Ok x) (Err e) → ⊥
 ok_err x e p = let z : ◌≡◌ {A = ℕ} 0 1 = cc in omega arith

@@ -1,11 +1,9 @@
 -- The line of a rule that fits the board passes all checks, and says that rule.
-use Rattle.std.proofs.Common.{◌≡◌, ℕ, ◌+◌, ◌-◌, ◌<◌, ◌≤◌, Bool, true, false, not, ◌&&◌, eqb, ltb, leb, List, [], ◌∷◌, ◌++◌, length, get_or, take, drop, sym, refl, ap, ◌∙◌, subst, arith}
-use Rattle.std.proofs.lemmas.Bool.{lt-leb, le-ltb, ltb-false, ne_eqb, eq-eqb, not_from_true, not_from_false, or_parts, and_parts, both_ways, not-true}
+use Rattle.std.proofs.Common.{◌≡◌, ℕ, ◌<◌, ◌≤◌, Bool, true, false, not, ◌&&◌, eqb, ltb, leb, List, [], ◌∷◌, length, get_or, sym, refl, ap, ◌∙◌, subst, arith}
+use Rattle.std.proofs.lemmas.Bool.{lt-leb, le-ltb, ltb-false, ne_eqb, eq-eqb, not_from_true, not_from_false, or_parts, both_ways}
 use Rattle.scales.specs.Meaning.{Meaning}
 use Rattle.scales.specs.Codes.{Coding, Codes}
-use Rattle.model.specs.Formed.{malformed_place, body_above, gap}
-use Rattle.model.specs.Least.{On}
-use Rattle.model.specs.Letters.{letter}
+use Rattle.model.specs.Formed.{body_above, gap}
 use Rattle.pasts.specs.Refusals.{outside}
 use Rattle.pasts.specs.Tables.{body_checks}
 use Rattle.pasts.proofs.Checked.{on_inside, Unmet as UnmetCalls}

@@ -1,17 +1,16 @@
 -- What the checks of a line let through is the spelling of the rule that it says, which fits the board.
-use Rattle.std.proofs.Common.{◌≡◌, ℕ, ◌+◌, ◌-◌, ◌<◌, ◌≤◌, Bool, true, false, not, ◌&&◌, eqb, ltb, leb, List, [], ◌∷◌, ◌++◌, length, get_or, take, drop, Some, sym, refl, ap, ◌∙◌, arith}
+use Rattle.std.proofs.Common.{◌≡◌, ℕ, ◌+◌, ◌<◌, false, not, eqb, ltb, List, [], ◌∷◌, ◌++◌, length, get_or, take, drop, Some, sym, refl, ap, ◌∙◌, arith}
 use Rattle.std.proofs.lemmas.List.{take-append-drop, drop-drop, drop_more, drop_all}
 use Rattle.std.proofs.lemmas.Bool.{eqb-true, leb-false, not-false, or_from, or_parts, and_right}
 use Rattle.scales.specs.Meaning.{Meaning}
 use Rattle.scales.specs.Codes.{Coding, Codes}
 use Rattle.model.specs.Letters.{letter}
-use Rattle.model.specs.declared.rule.Form.{Form}
 use Rattle.pasts.specs.Tables.{body_checks}
 use Rattle.pasts.proofs.Checked.{inside_on, none_above, no_gap, Unmet as UnmetCalls}
 use Rattle.text.specs.Boards.{Fitting}
 use Rattle.text.specs.Decimal.{written}
 use Rattle.text.specs.Faults.{Unmet}
-use Rattle.text.specs.Fields.{form_of, weight_of, number_of}
+use Rattle.text.specs.Fields.{form_of, weight_of}
 use Rattle.text.specs.Rows.{five, number_in, bodies_in, rule_in, rule_checks, counts_checks}
 use Rattle.text.specs.Spelling.{row_front, header_front}
 use Rattle.text.proofs.FieldsSpelled.{five_spelled, form_spelled, weight_spelled, weight_decoded}

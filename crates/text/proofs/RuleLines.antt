@@ -1,10 +1,9 @@
 -- The fields of a rule's line, one after another.
-use Rattle.std.proofs.Common.{◌≡◌, ℕ, List, [], ◌∷◌, ◌++◌, get_or, Ok, Err, Result, sym, refl, ap, ◌∙◌}
+use Rattle.std.proofs.Common.{◌≡◌, ℕ, List, [], ◌∷◌, ◌++◌, get_or, Ok, Err, Result, sym, ap, ◌∙◌}
 use Rattle.scales.specs.Meaning.{Meaning}
 use Rattle.scales.specs.Codes.{Coding}
 use Rattle.model.specs.declared.rule.Form.{Form}
-use Rattle.model.specs.declared.rule.Rule.{Rule}
-use Rattle.text.specs.Faults.{Check, judged, Unmet}
+use Rattle.text.specs.Faults.{Check, judged}
 use Rattle.text.specs.Fields.{form_of, form_checks, weight_of, weight_checks}
 use Rattle.text.specs.Rows.{five, number_in, due_check, mark_checks, head_checks, bodies_checks, bodies_in, rule_in, rule_checks}
 use Rattle.text.specs.declared.faults.Fault.{Fault}

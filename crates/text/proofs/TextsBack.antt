@@ -1,10 +1,9 @@
 -- The spelling of rules that fit the board passes all checks, and says those rules.
-use Rattle.std.proofs.Common.{◌≡◌, ℕ, zero, suc, ◌+◌, ◌-◌, ◌<◌, ◌≤◌, Bool, true, false, not, ◌||◌, eqb, leb, List, [], ◌∷◌, ◌++◌, length, get_or, take, drop, sym, refl, ap, ◌∙◌, subst, arith}
+use Rattle.std.proofs.Common.{◌≡◌, ℕ, ◌+◌, ◌≤◌, false, leb, List, [], ◌∷◌, ◌++◌, length, sym, refl, subst, arith}
 use Rattle.std.specs.List.{flat_map}
 use Rattle.std.proofs.lemmas.Bool.{lt-leb, or_from}
 use Rattle.scales.specs.Meaning.{Meaning}
 use Rattle.scales.specs.Codes.{Coding, Codes}
-use Rattle.model.specs.Least.{On}
 use Rattle.pasts.specs.Refusals.{outside}
 use Rattle.pasts.proofs.Checked.{on_inside}
 use Rattle.text.specs.Boards.{Fits, AllAlike, none, more}
@@ -12,8 +11,8 @@ use Rattle.text.specs.Decimal.{written}
 use Rattle.text.specs.Faults.{Unmet}
 use Rattle.text.specs.Fields.{number_of}
 use Rattle.text.specs.Lines.{cut}
-use Rattle.text.specs.Rows.{number_in, rule_in, rules_in, rules_of, rule_count, row_checks, rows_checks, header_checks, text_checks}
-use Rattle.text.specs.Spelling.{row_front, row_bytes, header_front, spelling}
+use Rattle.text.specs.Rows.{rules_in, rules_of, rule_count, row_checks, rows_checks, header_checks, text_checks}
+use Rattle.text.specs.Spelling.{row_bytes, spelling}
 use Rattle.text.specs.declared.numbered.Numbered.{Numbered}
 use Rattle.text.proofs.Judged.{unmet_both}
 use Rattle.text.proofs.RowsBack.{row_good, row_back, mark_back, header_back}

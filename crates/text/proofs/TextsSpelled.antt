@@ -1,5 +1,5 @@
 -- A text that passes all checks is the spelling of the rules that it says, which fit the board.
-use Rattle.std.proofs.Common.{◌≡◌, ℕ, zero, suc, ◌+◌, ◌-◌, ◌<◌, ◌≤◌, Bool, true, false, not, ◌||◌, eqb, leb, List, [], ◌∷◌, ◌++◌, length, get_or, take, drop, sym, refl, ap, ◌∙◌, arith}
+use Rattle.std.proofs.Common.{◌≡◌, ℕ, zero, suc, ◌+◌, ◌<◌, false, not, eqb, leb, List, [], ◌∷◌, ◌++◌, length, get_or, take, drop, sym, refl, ap, ◌∙◌, arith}
 use Rattle.std.specs.List.{flat_map}
 use Rattle.std.proofs.lemmas.List.{take-append-drop, drop_more, append_assoc, length-take-le, nil_from_length}
 use Rattle.std.proofs.lemmas.Bool.{eqb-true, leb-false, not-false, or_parts}
@@ -12,7 +12,7 @@ use Rattle.text.specs.Boards.{Fits, Decoded}
 use Rattle.text.specs.Faults.{Unmet}
 use Rattle.text.specs.Lines.{cut}
 use Rattle.text.specs.Rows.{number_in, rule_in, rules_in, rules_of, rule_count, row_checks, rows_checks, header_checks, text_checks}
-use Rattle.text.specs.Spelling.{row_front, row_bytes, header_front, spelling}
+use Rattle.text.specs.Spelling.{row_bytes, header_front, spelling}
 use Rattle.text.proofs.Judged.{unmet_parts}
 use Rattle.text.proofs.RowsSpelled.{row_spelled, row_fits, row_decoded, header_spelled}
 

@@ -1,29 +1,23 @@
 -- From text to board and back, and from board to text and back.
-use Rattle.std.proofs.Common.{◌≡◌, ℕ, suc, ◌+◌, ◌-◌, ◌*◌, ◌<◌, ◌≤◌, Bool, true, false, cond, not, ◌&&◌, ◌||◌, eqb, ltb, List, [], ◌∷◌, ◌++◌, length, get_or, take, drop, Some, None, Ok, Err, Option, Result, sym, refl, ap, ◌∙◌, subst, arith}
+use Rattle.std.proofs.Common.{◌≡◌, ℕ, suc, ◌+◌, ◌*◌, ◌<◌, ◌≤◌, Bool, true, false, cond, not, ◌&&◌, eqb, ltb, List, [], ◌∷◌, ◌++◌, length, take, drop, Some, None, Ok, Option, sym, refl, ap, ◌∙◌, subst, arith}
 use Rattle.std.specs.List.{flat_map}
-use Rattle.std.proofs.lemmas.List.{take_at, length-append}
-use Rattle.std.proofs.lemmas.Bool.{or_parts, or_from, and_right, le-ltb, ltb-false, eqb-false, cond-false, both_ways}
+use Rattle.std.proofs.lemmas.List.{take_at}
+use Rattle.std.proofs.lemmas.Bool.{or_parts, or_from, le-ltb, ltb-false, eqb-false, both_ways}
 use Rattle.scales.specs.Meaning.{Meaning}
 use Rattle.scales.specs.Laws.{Laws}
 use Rattle.scales.specs.Codes.{Coding, Codes}
 use Rattle.model.proofs.Cases.{at_test}
 use Rattle.model.specs.Formed.{malformed, malformed_place}
 use Rattle.model.specs.Least.{On}
-use Rattle.model.specs.Letters.{letter}
 use Rattle.model.specs.declared.rule.Rule.{Rule}
 use Rattle.pasts.specs.Pasts.{Past}
-use Rattle.pasts.specs.Promises.{Promise}
-use Rattle.pasts.specs.Refusals.{check, first}
-use Rattle.pasts.specs.Tables.{Tables, tables, count, table_checks}
+use Rattle.pasts.specs.Refusals.{first}
+use Rattle.pasts.specs.Tables.{Tables, count, table_checks}
 use Rattle.pasts.specs.declared.refusal.Refusal.{Refusal}
-use Rattle.pasts.specs.declared.refusal.Refusal.TheVariants.{BufferShort}
 use Rattle.pasts.proofs.Checked.{tables_checked, none_met, all_unmet, on_inside}
 use Rattle.pasts.proofs.Kept.{keeps_its_promise}
-use Rattle.pasts.proofs.Outcomes.{first_passed}
-use Rattle.text.specs.Boards.{Fits, Fitting, Four, Alike, AllAlike, none, more, board, held, numbered, adds}
-use Rattle.text.specs.Decimal.{written}
-use Rattle.text.specs.Faults.{judged}
-use Rattle.text.specs.Loads.{Loads, Writes, or_length, write_checks, text_length}
+use Rattle.text.specs.Boards.{Fits, Four, Alike, AllAlike, none, more, held, numbered, adds}
+use Rattle.text.specs.Loads.{Loads, or_length, write_checks, text_length}
 use Rattle.text.specs.Promises.{OneSpelling, LoadAfterWrite, WriteAfterLoad, LoadedPast}
 use Rattle.text.specs.Rows.{rule_count, text_checks}
 use Rattle.text.specs.Spelling.{row_bytes, header_front, spelling}

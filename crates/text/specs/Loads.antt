@@ -3,7 +3,7 @@
 --     text_length t                   how long the text of the board t is
 --     write_checks t buffer           what a write checks, in order
 --     Writes c t buffer r out         a write of the board t into the buffer answers r and leaves out
-use Rattle.std.specs.Prelude.{◌≡◌, ℕ, ◌+◌, ◌*◌, cond, List, [], ◌∷◌, ◌++◌, length, drop, Some, None, Ok, Err, Option, Result, nat_lt}
+use Rattle.std.specs.Prelude.{◌≡◌, ℕ, ◌+◌, ◌*◌, List, [], ◌∷◌, ◌++◌, length, drop, Some, None, Ok, Err, Option, Result, nat_lt}
 use Rattle.scales.specs.Meaning.{Meaning}
 use Rattle.scales.specs.Codes.{Coding}
 use Rattle.model.specs.Least.{On}

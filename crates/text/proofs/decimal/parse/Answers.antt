@@ -1,4 +1,4 @@
-use Rattle.std.proofs.Common.{sym, ap, ◌∙◌, arith}
+use Rattle.std.proofs.Common.{sym, ◌∙◌, arith}
 use Rattle.text.proofs.Columns.{goes_on, stops, ends, below_more}
 use Rattle.text.proofs.decimal.parse.Goals as goal
 

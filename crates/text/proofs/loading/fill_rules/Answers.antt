@@ -1,5 +1,4 @@
 use Rattle.std.proofs.Common.{◌≡◌, ℕ, ◌+◌, ◌-◌, length, drop, sym, ap, ◌∙◌, subst, arith}
-use Rattle.model.specs.Least.{On}
 use Rattle.text.specs.Boards.{placed}
 use Rattle.text.specs.Faults.{Unmet}
 use Rattle.text.specs.Rows.{rows_checks, rules_in}

@@ -1,4 +1,4 @@
-use Rattle.std.proofs.Common.{◌≡◌, ◌+◌, ◌-◌, length, drop}
+use Rattle.std.proofs.Common.{◌≡◌, ◌+◌, ◌-◌, drop}
 use Rattle.text.specs.Boards.{placed}
 use Rattle.text.specs.Faults.{Unmet}
 use Rattle.text.specs.Rows.{rows_checks, rules_in}

@@ -1,7 +1,6 @@
-use Rattle.std.proofs.Common.{◌≡◌, ℕ, ◌≤◌, length, drop, replicate, sym, refl, ap, ◌∙◌, subst, arith}
-use Rattle.std.proofs.lemmas.List.{length-replicate}
+use Rattle.std.proofs.Common.{ℕ, length, drop, sym, refl, ap, ◌∙◌, subst, arith}
 use Rattle.std.proofs.lemmas.Result.{err_from_is_err_and}
-use Rattle.pasts.specs.Tables.{Tables, tables, unopened, blank, cleared}
+use Rattle.pasts.specs.Tables.{Tables, tables}
 use Rattle.pasts.proofs.Checked.{lengths_checked}
 use Rattle.text.specs.Boards.{placed}
 use Rattle.text.specs.Faults.{Unmet}

@@ -1,4 +1,4 @@
-use Rattle.std.proofs.Common.{◌≡◌, ◌+◌, ◌-◌, ◌*◌, ◌≤◌, List, [], ◌∷◌, ◌++◌, length, take, drop, sym, refl, ap, ◌∙◌, arith}
+use Rattle.std.proofs.Common.{◌≡◌, ◌+◌, ◌-◌, ◌*◌, ◌≤◌, [], ◌∷◌, ◌++◌, length, take, drop, sym, ap, ◌∙◌, arith}
 use Rattle.std.specs.List.{flat_map}
 use Rattle.std.proofs.lemmas.List.{take_all, length-append, length-take, length-drop, flat_map_more}
 use Rattle.text.specs.Boards.{held, numbered}
@@ -14,11 +14,11 @@ room g c =
     let r = held_room c.args.rules.now c.loop-rule.rule-index c.rule-item.result c.rule-item.result (omega arith) c.rule-item.is c.if-rule-ne0.true in
     omega (arith, r, c.loop-rule.invariant.2, c.requires.room)
 
-pub slice-bounds-write_rule-count : goal.slice-bounds-write_rule-count
-slice-bounds-write_rule-count g c = omega (arith, c.loop-rule.invariant.3)
+pub slice_bounds-write_rule-count : goal.slice_bounds-write_rule-count
+slice_bounds-write_rule-count g c = omega (arith, c.loop-rule.invariant.3)
 
-pub slice-bounds-write_rule-start : goal.slice-bounds-write_rule-start
-slice-bounds-write_rule-start g c = omega (arith, c.loop-rule.invariant.3)
+pub slice_bounds-write_rule-start : goal.slice_bounds-write_rule-start
+slice_bounds-write_rule-start g c = omega (arith, c.loop-rule.invariant.3)
 
 pub write_rule-requires : goal.write_rule-requires
 write_rule-requires g c = simp (length-take, length-drop) (omega (arith, room g (goal.at.write_rule-requires g c).Then-rule-ne0))
