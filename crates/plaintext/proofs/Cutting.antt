@@ -2,10 +2,8 @@
 --     Alike o p       two numbers, or none, that are one as far as 65,536
 --     cut_early       numbers that are alike stay so whatever digits follow
 --     read_one        one more digit is read
---     no_digit        a byte is no digit
---     all_read        the word ends
-use Rattle.std.proofs.Common.{◌≡◌, ℕ, ◌+◌, ◌*◌, ◌<◌, ◌≤◌, min, List, [], ◌∷◌, length, get_or, drop, Some, None, Option, sym, refl, ap, ◌∙◌, arith}
-use Rattle.std.proofs.lemmas.List.{at_drop_more, drop_all}
+use Rattle.std.proofs.Common.{◌≡◌, ℕ, ◌+◌, ◌*◌, ◌<◌, min, List, [], ◌∷◌, length, get_or, drop, Some, None, Option, sym, refl, ap, ◌∙◌, arith}
+use Rattle.std.proofs.lemmas.List.{at_drop_more}
 use Rattle.std.specs.Option.{option_map}
 use Rattle.plaintext.specs.Numbers.{digit, digits, more}
 
@@ -31,9 +29,3 @@ module _ (v : ℕ) (word : List ℕ) (i : ℕ) (h : Alike (digits v (drop i word
   pub read_one : (d w : ℕ) → i < length word → digit (get_or word i 0) ≡ Some d → w ≡ min 65536 (10 * v + d) → Alike (digits w (drop (i + 1) word)) (digits 0 word)
   read_one d w lt e is =
       cut_early w (10 * v + d) (drop (i + 1) word) (omega arith) ∙ ap cut (sym (at_byte (Some d) lt e)) ∙ h
-
-  pub no_digit : i < length word → digit (get_or word i 0) ≡ None → cut (digits 0 word) ≡ None
-  no_digit lt e = sym h ∙ ap cut (at_byte None lt e)
-
-  pub all_read : length word ≤ i → v ≤ 65536 → cut (digits 0 word) ≡ Some v
-  all_read le small = sym h ∙ ap (λ l. cut (digits v l)) (drop_all i word le) ∙ ap Some (omega arith)

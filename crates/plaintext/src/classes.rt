@@ -43,7 +43,7 @@ impl Class for InLine {
 
 // How many bytes at the front of `text` are of the class.
 pub fn leading_of<C: Class>(text: &[u8]) -> usize
-    ensures value { result ≡ prefix_len member text.now }
+    ensures value { result ≡ prefix_len C.member text.now }
     ensures bound { result ≤ length text.now }
 {
     for (n, byte) in text.iter().enumerate() {
