@@ -1,7 +1,7 @@
 // The benchmarks' arguments, and the scale that they name.
+use crate::failure::Failure;
 use crate::input::input;
 use crate::timing::{Benchmark, timed};
-use anyhow::anyhow;
 use plaintext::small_number;
 use scales::{Belief, Percent, Suppliers, Verdict};
 use std::env::Args;
@@ -17,12 +17,16 @@ pub(crate) fn benchmark(word: &str) -> Option<Benchmark> {
 }
 
 // Runs the benchmark on what is left of the arguments, `FILE N [SCALE]`.
-pub(crate) fn bench(rt: &HostRuntime, benchmark: Benchmark, args: &mut Args) -> anyhow::Result<()> {
+pub(crate) fn bench(
+    rt: &HostRuntime,
+    benchmark: Benchmark,
+    args: &mut Args,
+) -> Result<(), Failure> {
     let path = args.next();
     let turns = turns(args.next());
     let scale = args.next();
     let (Some(path), Some(turns), None) = (path, turns, args.next()) else {
-        return Err(anyhow!("expected FILE N [SCALE], where N is a number from 1 to 65535"));
+        return Err(Failure::Said("expected FILE N [SCALE], where N is a number from 1 to 65535"));
     };
     let text = input(rt, Some(path))?;
     let line = match scale {
@@ -47,12 +51,12 @@ fn timed_on(
     text: &[u8],
     turns: u16,
     scale: &str,
-) -> anyhow::Result<String> {
+) -> Result<String, Failure> {
     match scale {
         "percent" => timed::<Percent>(rt, benchmark, text, turns),
         "verdict" => timed::<Verdict>(rt, benchmark, text, turns),
         "suppliers" => timed::<Suppliers>(rt, benchmark, text, turns),
         "belief" => timed::<Belief>(rt, benchmark, text, turns),
-        _ => Err(anyhow!("expected a scale: percent, verdict, suppliers or belief")),
+        _ => Err(Failure::Said("expected a scale: percent, verdict, suppliers or belief")),
     }
 }

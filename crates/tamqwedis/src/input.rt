@@ -1,14 +1,14 @@
 // What the program reads.
-use anyhow::anyhow;
+use crate::failure::Failure;
 use std::fs;
 use std::io::Read;
 
 // The file at the path, or standard input where there is none.
-pub(crate) fn input(rt: &HostRuntime, path: Option<String>) -> anyhow::Result<Vec<u8>> {
+pub(crate) fn input(rt: &HostRuntime, path: Option<String>) -> Result<Vec<u8>, Failure> {
     match path {
         Some(path) => match fs::read(rt, path.as_str()) {
             Ok(text) => Ok(text),
-            Err(error) => Err(anyhow!(format!(in rt.alloc(); "{path}: {error}")?)),
+            Err(error) => Err(Failure::Told(format!(in rt.alloc(); "{path}: {error}")?)),
         },
         None => {
             let mut text = Vec::new(rt.alloc());

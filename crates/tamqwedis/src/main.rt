@@ -2,20 +2,23 @@
 #![tactic(auto)]
 
 mod benching;
+mod failure;
 mod input;
 mod measured;
 mod scripted;
 mod timing;
 
 use benching::{bench, benchmark};
+use failure::Failure;
 use input::input;
 use measured::grade_lines;
 use scripted::run_script;
 use std::env;
+use std::process::ExitCode;
 
 // `tamqwedis [FILE]` runs a script, `tamqwedis lines [FILE]` grades measured lines; without FILE standard input is read.
 // `tamqwedis bench FILE N [SCALE]` and its like time the calls on a board.
-fn run(rt: &HostRuntime) -> anyhow::Result<()> {
+fn run(rt: &HostRuntime) -> Result<(), Failure> {
     let mut args = env::args(rt)?;
     let _program = args.next();
     match args.next() {
@@ -32,10 +35,12 @@ fn run(rt: &HostRuntime) -> anyhow::Result<()> {
     }
 }
 
-fn main(rt: HostRuntime) -> anyhow::Result<()> {
-    let result = run(&rt);
-    if let Err(error) = &result {
-        let _ = eprintln!(rt; "tamqwedis: {error}");
+fn main(rt: HostRuntime) -> ExitCode {
+    match run(&rt) {
+        Ok(()) => ExitCode::SUCCESS,
+        Err(failure) => {
+            let _ = eprintln!(rt; "tamqwedis: {failure}");
+            ExitCode::FAILURE
+        }
     }
-    result
 }

@@ -1,17 +1,17 @@
 // Carries out a script and prints its answers as they come.
+use crate::failure::Failure;
 use crate::input::input;
-use anyhow::anyhow;
 use plaintext::next_line;
 use script::{Loaded, Script, ScriptError, load_path, run_line, run_load};
 use std::alloc::{AllocError, Global};
 
-fn malformed(heap: Global, line: usize, error: ScriptError) -> anyhow::Result<anyhow::Error> {
+fn malformed(heap: Global, line: usize, error: ScriptError) -> Result<Failure, AllocError> {
     match error {
         ScriptError::Malformed(expected) => {
             let due = expected.words();
-            Ok(format!(in heap; "line {line}: expected {due}")?.into())
+            Ok(Failure::Told(format!(in heap; "line {line}: expected {due}")?))
         }
-        ScriptError::NoMemory => Ok("out of memory".into()),
+        ScriptError::NoMemory => Ok(Failure::Said("out of memory")),
     }
 }
 
@@ -20,7 +20,7 @@ fn run_one(
     rt: &HostRuntime,
     script: &mut Script,
     line: &[u8],
-) -> anyhow::Result<Result<String, ScriptError>> {
+) -> Result<Result<String, ScriptError>, Failure> {
     let Some(path) = load_path(line) else {
         return Ok(run_line(rt.alloc(), script, line));
     };
@@ -43,7 +43,7 @@ fn path_text(heap: Global, path: &[u8]) -> Result<String, AllocError> {
 }
 
 // A malformed line ends the run; the answers before it stay printed.
-pub(crate) fn run_script(rt: &HostRuntime, text: &[u8]) -> anyhow::Result<()> {
+pub(crate) fn run_script(rt: &HostRuntime, text: &[u8]) -> Result<(), Failure> {
     let heap = rt.alloc();
     let mut script = Script::NoBoard;
     let mut number: usize = 0;
@@ -53,7 +53,7 @@ pub(crate) fn run_script(rt: &HostRuntime, text: &[u8]) -> anyhow::Result<()> {
         match run_one(rt, &mut script, line) {
             Ok(Ok(answer)) => rt.print(answer)?,
             Ok(Err(error)) => return Err(malformed(heap, number, error)?),
-            Err(error) => return Err(anyhow!(format!(in heap; "line {number}: {error}")?)),
+            Err(error) => return Err(Failure::Told(format!(in heap; "line {number}: {error}")?)),
         }
         rest = after;
     }

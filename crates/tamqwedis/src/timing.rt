@@ -1,5 +1,5 @@
 // Calls on a loaded board, over any scale, timed by the program's own clock. There is no survey.
-use anyhow::anyhow;
+use crate::failure::Failure;
 use board::{finish, want, withdraw};
 use model::{Form, Rule};
 use pasts::{Mark, Refusal, Statement};
@@ -30,7 +30,7 @@ pub(crate) fn timed<G: Written>(
     benchmark: Benchmark,
     text: &[u8],
     turns: u16,
-) -> anyhow::Result<String> {
+) -> Result<String, Failure> {
     let mut tables: Tables<G> = loaded(rt.alloc(), text)?;
     match benchmark {
         Benchmark::Finish => time_finish(rt, &mut tables, turns),
@@ -54,7 +54,7 @@ fn table<T: Copy>(heap: Global, entry: T, len: usize) -> Result<Vec<T>, AllocErr
 }
 
 // The board that the text spells, on tables as long as its first line says.
-fn loaded<G: Written>(heap: Global, text: &[u8]) -> anyhow::Result<Tables<G>> {
+fn loaded<G: Written>(heap: Global, text: &[u8]) -> Result<Tables<G>, Failure> {
     let statement = Statement {
         grade: G::lowest(),
         mark: Mark::Unopened,
@@ -76,7 +76,7 @@ fn fill<G: Written>(
     text: &[u8],
     statements: &mut [Statement<G>],
     rules: &mut [Rule<G>],
-) -> anyhow::Result<()> {
+) -> Result<(), Failure> {
     match load(text, statements, rules) {
         Ok(_) => Ok(()),
         Err(fault) => {
@@ -84,23 +84,25 @@ fn fill<G: Written>(
             let number = report.refusal.number();
             let line = report.place.line;
             let column = report.place.column;
-            Err(anyhow!(format!(in heap; "load: refused {number} at line {line} column {column}")?))
+            Err(Failure::Told(format!(in heap;
+                "load: refused {number} at line {line} column {column}"
+            )?))
         }
     }
 }
 
 // What a call answers, or its refusal as an error.
-fn accepted<T: Drop>(heap: Global, call: &str, answer: Result<T, Refusal>) -> anyhow::Result<T> {
+fn accepted<T: Drop>(heap: Global, call: &str, answer: Result<T, Refusal>) -> Result<T, Failure> {
     match answer {
         Ok(value) => Ok(value),
         Err(refusal) => {
             let number = refusal.number();
-            Err(anyhow!(format!(in heap; "{call}: refused {number}")?))
+            Err(Failure::Told(format!(in heap; "{call}: refused {number}")?))
         }
     }
 }
 
-fn want_all<G: Written>(heap: Global, tables: &mut Tables<G>) -> anyhow::Result<()> {
+fn want_all<G: Written>(heap: Global, tables: &mut Tables<G>) -> Result<(), Failure> {
     let count = tables.statements.len().min(1024) as u16;
     for i in 0..count {
         let answer = want(&mut tables.statements, &tables.rules, i + 1);
@@ -120,10 +122,10 @@ fn copy_back<T: Copy>(table: &mut [T], from: &[T]) {
 }
 
 // The time so far and the time since `start`.
-fn more(rt: &HostRuntime, total: Duration, start: Instant) -> anyhow::Result<Duration> {
+fn more(rt: &HostRuntime, total: Duration, start: Instant) -> Result<Duration, Failure> {
     match total.checked_add(start.elapsed(rt)?) {
         Some(total) => Ok(total),
-        None => Err(anyhow!("the clock ran too far")),
+        None => Err(Failure::Said("the clock ran too far")),
     }
 }
 
@@ -137,7 +139,7 @@ fn time_finish<G: Written>(
     rt: &HostRuntime,
     tables: &mut Tables<G>,
     turns: u16,
-) -> anyhow::Result<String> {
+) -> Result<String, Failure> {
     let heap = rt.alloc();
     let survey: Listed<G> = Listed {
         grades: Vec::new(heap),
@@ -163,7 +165,7 @@ fn time_text<G: Written>(
     tables: &mut Tables<G>,
     text: &[u8],
     turns: u16,
-) -> anyhow::Result<String> {
+) -> Result<String, Failure> {
     let heap = rt.alloc();
     let bytes = text.len();
     let mut buffer = vec![in heap; 0u8; bytes]?;
@@ -188,7 +190,7 @@ fn time_withdraw<G: Written>(
     rt: &HostRuntime,
     tables: &mut Tables<G>,
     turns: u16,
-) -> anyhow::Result<String> {
+) -> Result<String, Failure> {
     let heap = rt.alloc();
     let survey: Listed<G> = Listed {
         grades: Vec::new(heap),
