@@ -1,13 +1,10 @@
-use Rattle.std.proofs.Common.{arith, rules}
+use Rattle.std.proofs.Common.{arith}
 use Rattle.lines.proofs.Following.{went_on, failed, ended, bare_end}
 use Rattle.lines.proofs.measured.read_lines.Goals as goal
 
 pub returns-then-not-fits : goal.returns-then-not-fits
 returns-then-not-fits c =
     c.loop-bytes.invariant.1 _ (failed c.classify-line.result c.in-Some.ensures.parts c.classify-line.ensures c.due.result c.if-not-fits.ensures c.due.ensures)
-
-pub returns-in_err-note : goal.returns-in_err-note
-returns-in_err-note c = search rules
 
 pub loop-bytes-preserved : goal.loop-bytes-preserved
 loop-bytes-preserved c = (
