@@ -1,6 +1,6 @@
 // The fields of a script's line.
 ghost use Rattle.std.specs.Prelude.{◌≡◌};
-ghost use Rattle.spelling.specs.Fields.{end as end_of_lem, form as form_of, grade as grade_of, number_to_limit, only, reading as reading_of};
+ghost use Rattle.spelling.specs.Fields.{end as end_of, form as form_of, grade as grade_of, number_to_limit, only, reading as reading_of};
 
 use model::Form;
 use plaintext::{is_blank, next_word, number, small_number};
@@ -43,7 +43,7 @@ impl Expected {
 }
 
 pub fn end(line: &[u8]) -> Result<(), Expected>
-    ensures { result ≡ end_of_lem line.now }
+    ensures { result ≡ end_of line.now }
 {
     if is_blank(line) {
         Ok(())
