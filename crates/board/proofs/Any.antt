@@ -1,10 +1,11 @@
 -- A loop that looks for an element that passes a test, against a recursion that does.
-use Rattle.std.proofs.Common.{◌≡◌, ℕ, ◌+◌, ◌<◌, ◌≤◌, Bool, true, false, cond, not, ◌&&◌, ◌||◌, eqb, ltb, List, [], ◌∷◌, length, get_or, drop, sym, refl, ap, ◌∙◌, arith}
+use Rattle.std.proofs.Common.{◌≡◌, ℕ, ◌+◌, ◌<◌, ◌≤◌, Bool, true, false, cond, not, ◌&&◌, ◌||◌, eqb, List, [], ◌∷◌, length, get_or, drop, sym, refl, ap, ◌∙◌}
 use lib.Dec.{eqb-suc-zero}
-use Rattle.std.proofs.lemmas.Bool.{both_ways, or_left, or_right, eqb-true, le-ltb}
+use Rattle.std.proofs.lemmas.List.{drop_more}
+use Rattle.std.proofs.lemmas.Bool.{or_left, eq-eqb, ne_eqb}
 use Rattle.model.specs.Rules.{present, holds}
-use Rattle.model.specs.Formed.{gap, body_above}
-use Rattle.board.specs.Misplaced.{misplaced_after}
+use Rattle.model.specs.Formed.{gap}
+use Rattle.board.specs.Flags.{flagged, some_flagged}
 use Rattle.board.proofs.Turns.{turn, none_left}
 
 or_next : (x y : Bool) → x ≡ false → (x || y) ≡ y
@@ -35,54 +36,32 @@ present_one F p more b false bs = more b bs
 pub holds_cons : (s b : ℕ) (bs : List ℕ) → holds (present (b ∷ bs)) s ≡ (there (λ x. eqb x s) b || holds (present bs) s)
 holds_cons s b bs = present_one (λ l. holds l s) (λ x. eqb x s) (λ _ _. refl) b (eqb b 0) (present bs)
 
--- za, zb: the bodies a and b are absent; lb: b is above the count; Y, E, g: one after b is so, is there, comes after an absent one
-merged : (za zb lb Y E g N : Bool) → (zb ≡ true → lb ≡ false) → N ≡ cond zb E true → ((not zb && (za || lb)) || (Y || cond zb E g)) ≡ ((lb || Y) || cond za N (cond zb E g))
-merged true true true Y E g N f e = absurd (both_ways true (f refl) refl)
-merged true true false Y E g N f e = ap (λ t. Y || t) (sym e)
-merged true false lb Y E g N f e = sym (or_right (lb || Y) N e)
-merged false true true Y E g N f e = absurd (both_ways true (f refl) refl)
-merged false true false Y E g N f e = refl
-merged false false true Y E g N f e = refl
-merged false false false Y E g N f e = refl
+pub touch_cons : (fl : List Bool) (b : ℕ) (bs : List ℕ) → some_flagged fl (present (b ∷ bs)) ≡ (there (flagged fl) b || some_flagged fl (present bs))
+touch_cons fl b bs = present_one (some_flagged fl) (flagged fl) (λ _ _. refl) b (eqb b 0) (present bs)
 
--- whether one of the bodies after a is misplaced
-abbrev some_after : ℕ → ℕ → List ℕ → Bool
-some_after n a [] = false
-some_after n a (b ∷ bs) = misplaced_after n a b || some_after n b bs
+-- what is to come of a gap test, once an absent body was met or not
+abbrev pub gap_after : Bool → List ℕ → Bool
+gap_after true bs = not (eqb (length (present bs)) 0)
+gap_after false bs = gap bs
 
-no_gap : (t : Bool) → false ≡ cond t false false
-no_gap true = refl
-no_gap false = refl
+pub gap_end : (a : Bool) → false ≡ gap_after a []
+gap_end true = refl
+gap_end false = refl
 
-some_there : (z : Bool) (b : ℕ) (bs : List ℕ) → not (eqb (length (cond z (present bs) (b ∷ present bs))) 0) ≡ cond z (not (eqb (length (present bs)) 0)) true
-some_there true b bs = refl
-some_there false b bs = ap not (eqb-suc-zero (length (present bs)))
+module _ (bs : List ℕ) (i : ℕ) (h : i < length bs) where
+  cut : (a : Bool) → gap_after a (drop i bs) ≡ gap_after a (get_or bs i 0 ∷ drop (i + 1) bs)
+  cut a = ap (gap_after a) (drop_more bs i 0 h)
 
-after_is : (n a : ℕ) (bs : List ℕ) → some_after n a bs ≡ (body_above n bs || gap (a ∷ bs))
-after_is n a [] = no_gap (eqb a 0)
-after_is n a (b ∷ bs) =
-    ap (λ t. misplaced_after n a b || t) (after_is n b bs)
-    ∙ merged (eqb a 0) (eqb b 0) (ltb n b) (body_above n bs) (not (eqb (length (present bs)) 0)) (gap bs) _
-    (λ e. let z = eqb-true b 0 e in le-ltb n b (omega arith))
-    (some_there (eqb b 0) b bs)
+  absent_one : (a : Bool) (b : ℕ) (rest : List ℕ) → b ≡ 0 → gap_after a (b ∷ rest) ≡ gap_after true rest
+  absent_one true b rest e = ap (λ (t : Bool). not (eqb (length (cond t (present rest) (b ∷ present rest))) 0)) (eq-eqb b 0 e)
+  absent_one false b rest e = ap (λ (t : Bool). cond t (not (eqb (length (present rest)) 0)) (gap rest)) (eq-eqb b 0 e)
 
-or_nest : (x y z : Bool) → (x || (y || z)) ≡ ((x || y) || z)
-or_nest true y z = refl
-or_nest false y z = refl
+  there_one : (a : Bool) (b : ℕ) (rest : List ℕ) → (b ≡ 0 → ⊥) → gap_after a (b ∷ rest) ≡ cond a true (gap rest)
+  there_one true b rest e = ap (λ (t : Bool). not (eqb (length (cond t (present rest) (b ∷ present rest))) 0)) (ne_eqb b 0 e) ∙ ap not (eqb-suc-zero (length (present rest)))
+  there_one false b rest e = ap (λ (t : Bool). cond t (not (eqb (length (present rest)) 0)) (gap rest)) (ne_eqb b 0 e)
 
-or_none : (x : Bool) → x ≡ (x || false)
-or_none true = refl
-or_none false = refl
+  pub gap_absent : (a : Bool) → get_or bs i 0 ≡ 0 → gap_after a (drop i bs) ≡ gap_after true (drop (i + 1) bs)
+  gap_absent a e = cut a ∙ absent_one a (get_or bs i 0) (drop (i + 1) bs) e
 
--- four bodies are as they should be where none is misplaced
-pub four_misplaced : (n : ℕ) (bs : List ℕ) → length bs ≡ 4 → (ltb n (get_or bs 0 0) || (misplaced_after n (get_or bs 0 0) (get_or bs 1 0) || (misplaced_after n (get_or bs 1 0) (get_or bs 2 0) || misplaced_after n (get_or bs 2 0) (get_or bs 3 0)))) ≡ (body_above n bs || gap bs)
-four_misplaced n [] e = absurd (omega arith)
-four_misplaced n (a ∷ []) e = absurd (omega arith)
-four_misplaced n (a ∷ b ∷ []) e = absurd (omega arith)
-four_misplaced n (a ∷ b ∷ c ∷ []) e = absurd (omega arith)
-four_misplaced n (a ∷ b ∷ c ∷ d ∷ []) e =
-    let bs = b ∷ c ∷ d ∷ [] in
-    ap (λ t. ltb n a || (misplaced_after n a b || (misplaced_after n b c || t))) (or_none (misplaced_after n c d))
-    ∙ ap (λ t. ltb n a || t) (after_is n a bs)
-    ∙ or_nest (ltb n a) (body_above n bs) (gap (a ∷ bs))
-four_misplaced n (a ∷ b ∷ c ∷ d ∷ x ∷ bs) e = absurd (omega arith)
+  pub gap_there : (a : Bool) → (get_or bs i 0 ≡ 0 → ⊥) → gap_after a (drop i bs) ≡ cond a true (gap (drop (i + 1) bs))
+  gap_there a e = cut a ∙ there_one a (get_or bs i 0) (drop (i + 1) bs) e

@@ -6,6 +6,7 @@ pub mod Noted
 pub mod Chained
 pub mod Opened
 pub mod Spread
+pub mod Queued
 pub mod Fallen
 pub mod Exits
 pub mod Checks

@@ -1,16 +1,62 @@
 -- Flags that spread from a statement to all that lead to it.
-use Rattle.std.proofs.Common.{◌≡◌, ℕ, zero, suc, ◌+◌, ◌-◌, ◌<◌, ◌≤◌, Bool, true, false, cond, not, ◌||◌, eqb, ltb, ◌≢◌, ◌⊎◌, List, [], ◌∷◌, length, get_or, set, count_by, sym, refl, ap, ◌∙◌, subst, inl, inr, ⊎_elim, arith, length-set}
+use Rattle.std.proofs.Common.{◌≡◌, ℕ, zero, suc, ◌+◌, ◌-◌, ◌<◌, ◌≤◌, Bool, true, false, cond, not, ◌&&◌, ◌||◌, eqb, ltb, ◌≢◌, ◌⊎◌, List, [], ◌∷◌, length, get_or, drop, set, Some, None, count_by, Option, sym, refl, ap, ◌∙◌, subst, inl, inr, ⊎_elim, arith}
 use Rattle.std.proofs.lemmas.List.{get_or-set_same, get_or-set_other}
-use Rattle.std.proofs.lemmas.Bool.{and_cases, or_parts, or_from, and_left, and_right, le-ltb, ne_eqb, ltb-false, not_from_false, both_ways, cases_eq, cases_lt}
-use Rattle.std.proofs.lemmas.List.Sums.{sum_by-set, count_by-le-length}
-use Rattle.model.specs.Rules.{son, Leads, here, by_son}
-use Rattle.model.specs.Formed.{gap, body_above, malformed, malformed_place}
+use Rattle.std.proofs.lemmas.Bool.{and_parts, and_cases, or_cases, or_parts, or_left, or_right, or_from, and_left, and_right, le-ltb, eq-eqb, ne_eqb, eqb-true, eqb-false, ltb-false, not-true, not-false, not_from_false, both_ways, cond-true, cond-false, cases_eq}
+use Rattle.std.proofs.lemmas.List.Sums.{sum_by-set}
 use Rattle.model.specs.Least.{On}
-use Rattle.model.specs.declared.rule.Rule.{Rule}
+use Rattle.model.specs.Rules.{present, holds, son, Leads, here, by_son}
+use Rattle.model.specs.Formed.{malformed, malformed_place, body_above, gap}
 use Rattle.model.proofs.Sons.{son_on}
-use Rattle.board.specs.Flags.{flagged, Waits, Closed, Grown}
+use Rattle.board.specs.Flags.{flagged, some_flagged, spreads, spreading}
+use Rattle.model.specs.declared.rule.Rule.{Rule}
+use Rattle.board.proofs.Turns.{turn_taken, turn_left, none_left}
+
+-- the loop over rules
+module _ {G : Type 0} (fl : List Bool) (rs : List (Rule G)) (i : ℕ) (so_far : spreading fl (drop i rs) ≡ spreading fl rs) where
+  pub spread_here : (r : Rule G) → i < length rs → r ≡ get_or rs i r → spreads fl r ≡ true → Some r.head ≡ spreading fl rs
+  spread_here r h read e = sym (turn_taken rs i (spreading fl) r (spreads fl r) _ _ refl h read e) ∙ so_far
+
+  pub spread_next : (r : Rule G) → i < length rs → r ≡ get_or rs i r → spreads fl r ≡ false → spreading fl (drop (i + 1) rs) ≡ spreading fl rs
+  spread_next r h read e = sym (turn_left rs i (spreading fl) r (spreads fl r) _ _ refl h read e) ∙ so_far
+
+  pub spread_end : length rs ≤ i → None ≡ spreading fl rs
+  spread_end h = sym (none_left (spreading fl) rs i h) ∙ so_far
+
+-- bodies
+touched : (fl : List Bool) (bs : List ℕ) → some_flagged fl bs ≡ true → (t : ℕ) × (holds bs t ≡ true) × (flagged fl t ≡ true)
+touched fl [] e = let z : ◌≡◌ {A = ℕ} 0 1 = cc in absurd (omega arith)
+touched fl (b ∷ bs) e =
+    ⊎_elim
+    (λ f. (b, or_left (eqb b b) (holds bs b) (eq-eqb b b refl), f))
+    (λ f. let rest = touched fl bs f in (rest.0, or_right (eqb b rest.0) (holds bs rest.0) rest.1, rest.2))
+    (or_cases (flagged fl b) (some_flagged fl bs) e)
+
+touching : (fl : List Bool) (bs : List ℕ) (t : ℕ) → holds bs t ≡ true → flagged fl t ≡ true → some_flagged fl bs ≡ true
+touching fl [] t e f = let z : ◌≡◌ {A = ℕ} 0 1 = cc in absurd (omega arith)
+touching fl (b ∷ bs) t e f =
+    ⊎_elim
+    (λ q. or_left (flagged fl b) (some_flagged fl bs) (ap (flagged fl) (eqb-true b t q) ∙ f))
+    (λ q. or_right (flagged fl b) (some_flagged fl bs) (touching fl bs t q f))
+    (or_cases (eqb b t) (holds bs t) e)
+
+son_later : (b h c : Bool) → c ≡ true → cond b (h || c) c ≡ true
+son_later true h c e = or_right h c e
+son_later false h c e = e
+
+some_head : (h p : ℕ) → Some h ≡ Some p → h ≡ p
+some_head h p e = cc
+
+none_both : (b : Bool) (h : ℕ) (o : Option ℕ) → cond b (Some h) o ≡ None → (b ≡ false) × (o ≡ None)
+none_both true h o e = let z : ◌≡◌ {A = ℕ} 0 1 = cc in absurd (omega arith)
+none_both false h o e = (refl, e)
 
 module _ {G : Type 0} where
+  son_cases : (r : Rule G) (rs : List (Rule G)) (s t : ℕ) → son (r ∷ rs) s t ≡ true → (b : Bool) → eqb r.head s ≡ b → ((r.head ≡ s) × (holds (present r.bodies) t ≡ true)) ⊎ (son rs s t ≡ true)
+  son_cases r rs s t e true q =
+      ⊎_elim (λ f. inl (eqb-true r.head s q, f)) (λ f. inr f)
+      (or_cases (holds (present r.bodies) t) (son rs s t) (sym (cond-true (eqb r.head s) (holds (present r.bodies) t || son rs s t) (son rs s t) q) ∙ e))
+  son_cases r rs s t e false q = inr (sym (cond-false (eqb r.head s) (holds (present r.bodies) t || son rs s t) (son rs s t) q) ∙ e)
+
   head_low : (n : ℕ) (r : Rule G) → malformed_place n r ≡ false → 1 ≤ r.head → r.head ≤ n
   head_low n r e pos =
       let no_zero : not (eqb r.head 0) ≡ true = not_from_false (eqb r.head 0) (ne_eqb r.head 0 (λ q. omega arith)) in
@@ -19,12 +65,68 @@ module _ {G : Type 0} where
       (and_cases (not (eqb r.head 0)) (ltb n r.head || (body_above n r.bodies || gap r.bodies)) e) in
       ltb-false n r.head (or_parts (ltb n r.head) (body_above n r.bodies || gap r.bodies) rest).0
 
-  -- where all flags have spread, all that lead to a flagged statement are flagged
-  pub all_lead : (fl : List Bool) (n : ℕ) (rs : List (Rule G)) → malformed n rs ≡ false → ((t : ℕ) → 1 ≤ t → flagged fl t ≡ true → Closed rs fl t) → {s h : ℕ} → On n s → Leads rs s h → flagged fl h ≡ true → flagged fl s ≡ true
-  all_lead fl n rs sound closed on here f = f
-  all_lead fl n rs sound closed {s} on (by_son {t = t} q rest) f =
-      let at = son_on n rs s t sound on.0 q in
-      closed t at.0 (all_lead fl n rs sound closed at rest f) s on.0 q
+  pub record Spread (fl : List Bool) (rs : List (Rule G)) (n p : ℕ) : Type 0 where
+    pub on : On n p
+    pub new : flagged fl p ≡ false
+    pub from : ℕ
+    pub its_son : son rs p from ≡ true
+    pub was : flagged fl from ≡ true
+
+  spread_rule : (fl : List Bool) (n : ℕ) (r : Rule G) (rs : List (Rule G)) → malformed_place n r ≡ false → spreads fl r ≡ true → Spread fl (r ∷ rs) n r.head
+  spread_rule fl n r rs sound e =
+      let a = and_parts (not (eqb r.head 0)) (not (flagged fl r.head) && some_flagged fl (present r.bodies)) e in
+      let b = and_parts (not (flagged fl r.head)) (some_flagged fl (present r.bodies)) a.1 in
+      let ne = eqb-false r.head 0 (not-true (eqb r.head 0) a.0) in
+      let pos : 1 ≤ r.head = omega arith in
+      let t = touched fl (present r.bodies) b.1 in
+      record {
+        on = (pos, head_low n r sound pos);
+        new = not-true (flagged fl r.head) b.0;
+        from = t.0;
+        its_son = cond-true (eqb r.head r.head) _ _ (eq-eqb r.head r.head refl) ∙ or_left (holds (present r.bodies) t.0) (son rs r.head t.0) t.1;
+        was = t.2;
+      }
+
+  spread_later : (fl : List Bool) (n p : ℕ) (r : Rule G) (rs : List (Rule G)) → Spread fl rs n p → Spread fl (r ∷ rs) n p
+  spread_later fl n p r rs d = record {
+    on = d.on;
+    new = d.new;
+    from = d.from;
+    its_son = son_later (eqb r.head p) (holds (present r.bodies) d.from) (son rs p d.from) d.its_son;
+    was = d.was;
+  }
+
+  spread_by : (fl : List Bool) (n p : ℕ) (r : Rule G) (rs : List (Rule G)) → malformed_place n r ≡ false → (spreading fl rs ≡ Some p → Spread fl rs n p) → (b : Bool) → spreads fl r ≡ b → cond b (Some r.head) (spreading fl rs) ≡ Some p → Spread fl (r ∷ rs) n p
+  spread_by fl n p r rs sound rest true q e = subst (λ k. Spread fl (r ∷ rs) n k) (some_head r.head p e) (spread_rule fl n r rs sound q)
+  spread_by fl n p r rs sound rest false q e = spread_later fl n p r rs (rest e)
+
+  pub spread_some : (fl : List Bool) (n p : ℕ) (rs : List (Rule G)) → malformed n rs ≡ false → spreading fl rs ≡ Some p → Spread fl rs n p
+  spread_some fl n p [] a e = let z : ◌≡◌ {A = ℕ} 0 1 = cc in absurd (omega arith)
+  spread_some fl n p (r ∷ rs) a e =
+      let parts = or_parts (malformed_place n r) (malformed n rs) a in
+      spread_by fl n p r rs parts.0 (spread_some fl n p rs parts.1) (spreads fl r) refl e
+
+  quiet_rule : (fl : List Bool) (r : Rule G) (t : ℕ) → 1 ≤ r.head → spreads fl r ≡ false → holds (present r.bodies) t ≡ true → flagged fl t ≡ true → flagged fl r.head ≡ true
+  quiet_rule fl r t pos e h f =
+      let no_zero : not (eqb r.head 0) ≡ true = not_from_false (eqb r.head 0) (ne_eqb r.head 0 (λ q. omega arith)) in
+      let met : some_flagged fl (present r.bodies) ≡ true = touching fl (present r.bodies) t h f in
+      ⊎_elim
+      (λ q. absurd (both_ways (not (eqb r.head 0)) q no_zero))
+      (λ q. ⊎_elim (λ v. not-false (flagged fl r.head) v) (λ v. absurd (both_ways (some_flagged fl (present r.bodies)) v met)) (and_cases (not (flagged fl r.head)) (some_flagged fl (present r.bodies)) q))
+      (and_cases (not (eqb r.head 0)) (not (flagged fl r.head) && some_flagged fl (present r.bodies)) e)
+
+  pub spread_none : (fl : List Bool) (rs : List (Rule G)) → spreading fl rs ≡ None → (s t : ℕ) → 1 ≤ s → son rs s t ≡ true → flagged fl t ≡ true → flagged fl s ≡ true
+  spread_none fl [] e s t pos h f = let z : ◌≡◌ {A = ℕ} 0 1 = cc in absurd (omega arith)
+  spread_none fl (r ∷ rs) e s t pos h f =
+      let both = none_both (spreads fl r) r.head (spreading fl rs) e in
+      ⊎_elim
+      (λ q. let same = q.0 in ap (flagged fl) (sym same) ∙ quiet_rule fl r t (omega arith) both.0 q.1 f)
+      (λ q. spread_none fl rs both.1 s t pos q f)
+      (son_cases r rs s t h (eqb r.head s) refl)
+
+  pub all_lead : (fl : List Bool) (n : ℕ) (rs : List (Rule G)) → malformed n rs ≡ false → None ≡ spreading fl rs → {s h : ℕ} → On n s → Leads rs s h → flagged fl h ≡ true → flagged fl s ≡ true
+  all_lead fl n rs sound e on here f = f
+  all_lead fl n rs sound e {s} on (by_son {t = t} q rest) f = spread_none fl rs (sym e) s t on.0 q (all_lead fl n rs sound e (son_on n rs s t sound on.0 q) rest f)
 
 -- what is well formed among n statements is so among more
 above_more : (n k : ℕ) → n ≤ k → (bs : List ℕ) → body_above n bs ≡ false → body_above k bs ≡ false
@@ -84,106 +186,3 @@ flag_kept fl p s on pos e =
     (λ q. let at : s - 1 ≡ p - 1 = omega arith in ap (λ k. get_or (set fl (p - 1) true) k false) at ∙ get_or-set_same fl (p - 1) true false (omega arith))
     (λ q. let apart : s - 1 ≢ p - 1 = λ r. q (omega arith) in get_or-set_other fl (p - 1) (s - 1) true false apart ∙ e)
     (cases_eq s p)
-
-module _ {G : Type 0} (rs : List (Rule G)) (s : ℕ) (fl : List Bool) (queue : List ℕ) (n : ℕ) where
-  pub grown_none : Grown rs s fl queue n fl queue n
-  grown_none = record {
-    kept = λ t pos f. f;
-    new = λ t pos f. inl f;
-    named = λ i a b. absurd (omega arith);
-    same = λ i h. refl;
-    grows = omega arith;
-    few = omega arith;
-  }
-
-  -- one parent more
-  pub grown_more : (more : List Bool) (longer : List ℕ) (k p : ℕ) → Grown rs s fl queue n more longer k → On (length more) p → son rs p s ≡ true → flagged more p ≡ false → k < length longer → Grown rs s fl queue n (set more (p - 1) true) (set longer k p) (k + 1)
-  grown_more more longer k p g on q e h =
-      let front : (i : ℕ) → i < k → get_or (set longer k p) i 0 ≡ get_or longer i 0 = λ i l. let apart : i ≢ k = λ c. omega arith in get_or-set_other longer k i p 0 apart in
-      let last : get_or (set longer k p) k 0 ≡ p = get_or-set_same longer k p 0 h in
-      let own : flagged (set more (p - 1) true) p ≡ true = get_or-set_same more (p - 1) true false (omega arith) in
-      let long = length-set more (p - 1) true in
-      let grows = g.grows in
-      let few = g.few in
-      record {
-        kept = λ t pos f. flag_kept more p t on pos (g.kept t pos f);
-        new = λ t pos f. ⊎_elim
-            (λ (c : t ≡ p). let F : ℕ → Type 0 = λ j. (son rs j s ≡ true) × Waits (set longer k p) n (k + 1) j in inr (subst F (sym c) (q, (k, omega arith, omega arith, last))))
-            (λ was. ⊎_elim (λ old. inl old) (λ fresh. let w = fresh.1 in inr (fresh.0, (w.0, w.1, omega arith, front w.0 w.2 ∙ w.3))) (g.new t pos was))
-            (flag_more more p t on pos f);
-        named = λ i a b. ⊎_elim
-            (λ (l : i < k).
-            let F : ℕ → Type 0 = λ j. On (length (set more (p - 1) true)) j × (flagged (set more (p - 1) true) j ≡ true) in
-            let was = g.named i a l in
-            subst F (sym (front i l)) ((was.0.0, omega arith), flag_kept more p (get_or longer i 0) on was.0.0 was.1))
-            (λ (l : k ≤ i).
-            let F : ℕ → Type 0 = λ j. On (length (set more (p - 1) true)) (get_or (set longer k p) j 0) × (flagged (set more (p - 1) true) (get_or (set longer k p) j 0) ≡ true) in
-            let K : ℕ → Type 0 = λ j. On (length (set more (p - 1) true)) j × (flagged (set more (p - 1) true) j ≡ true) in
-            let at : k ≡ i = omega arith in
-            subst F at (subst K (sym last) ((on.0, omega arith), own)))
-            (cases_lt i k);
-        same = λ i l. front i (omega arith) ∙ g.same i l;
-        grows = omega arith;
-        few = let less = fewer more (p - 1) (omega arith) e in omega arith;
-      }
-
--- the flags so far: they are on statements that lead to h, and have spread from all but those that wait in the queue
-pub record Spreading {G : Type 0} (rs : List (Rule G)) (h : ℕ) (fl : List Bool) (queue : List ℕ) (d n : ℕ) : Type 0 where
-  pub only : (t : ℕ) → 1 ≤ t → flagged fl t ≡ true → Leads rs t h
-  pub own : flagged fl h ≡ true
-  pub few : n + count_by not fl ≤ length fl
-  pub named : (i : ℕ) → i < n → On (length fl) (get_or queue i 0) × (flagged fl (get_or queue i 0) ≡ true)
-  pub open_yet : (t : ℕ) → 1 ≤ t → flagged fl t ≡ true → Waits queue d n t ⊎ Closed rs fl t
-  pub within : d ≤ n
-
-module _ {G : Type 0} (rs : List (Rule G)) (h : ℕ) where
-  pub spreading_first : (fl : List Bool) (queue : List ℕ) → On (length fl) h → ((s : ℕ) → flagged fl s ≡ false) → 0 < length queue → Spreading rs h (set fl (h - 1) true) (set queue 0 h) 0 1
-  spreading_first fl queue on none room =
-      let long = length-set fl (h - 1) true in
-      let first : get_or (set queue 0 h) 0 0 ≡ h = get_or-set_same queue 0 h 0 room in
-      let own : flagged (set fl (h - 1) true) h ≡ true = get_or-set_same fl (h - 1) true false (omega arith) in
-      let alone : (t : ℕ) → 1 ≤ t → flagged (set fl (h - 1) true) t ≡ true → t ≡ h = λ t pos f. ⊎_elim (λ q. q) (λ q. absurd (both_ways (flagged fl t) (none t) q)) (flag_more fl h t on pos f) in
-      record {
-        only = λ t pos f. let F : ℕ → Type 0 = λ j. Leads rs j h in subst F (sym (alone t pos f)) here;
-        own = own;
-        few = let less = fewer fl (h - 1) (omega arith) (none h) in let most = count_by-le-length not fl in omega arith;
-        named = λ i l.
-            let F : ℕ → Type 0 = λ j. On (length (set fl (h - 1) true)) (get_or (set queue 0 h) j 0) × (flagged (set fl (h - 1) true) (get_or (set queue 0 h) j 0) ≡ true) in
-            let K : ℕ → Type 0 = λ j. On (length (set fl (h - 1) true)) j × (flagged (set fl (h - 1) true) j ≡ true) in
-            let at : 0 ≡ i = omega arith in
-            subst F at (subst K (sym first) ((on.0, omega arith), own));
-        open_yet = λ t pos f. inl (0, omega arith, omega arith, first ∙ sym (alone t pos f));
-        within = omega arith;
-      }
-
-  -- the parents of the next one in the queue were flagged
-  pub spreading_more : 1 ≤ h → (fl more : List Bool) (queue longer : List ℕ) (d n k : ℕ) → d < n → length more ≡ length fl → Spreading rs h fl queue d n → Grown rs (get_or queue d 0) fl queue n more longer k → Closed rs more (get_or queue d 0) → Spreading rs h more longer (d + 1) k
-  spreading_more pos fl more queue longer d n k less long so g closed =
-      let s = get_or queue d 0 in
-      let at = so.named d less in
-      let grows = g.grows in
-      let few = so.few in
-      let spent = g.few in
-      record {
-        only = λ t low f. ⊎_elim (λ old. so.only t low old) (λ fresh. by_son fresh.0 (so.only s at.0.0 at.1)) (g.new t low f);
-        own = g.kept h pos so.own;
-        few = omega arith;
-        named = λ i l. ⊎_elim
-            (λ (low : i < n).
-            let F : ℕ → Type 0 = λ j. On (length more) j × (flagged more j ≡ true) in
-            let was = so.named i low in
-            subst F (sym (g.same i low)) ((was.0.0, omega arith), g.kept (get_or queue i 0) was.0.0 was.1))
-            (λ (high : n ≤ i). g.named i high l)
-            (cases_lt i n);
-        open_yet = λ t low f. ⊎_elim
-            (λ old. ⊎_elim
-            (λ w. ⊎_elim
-            (λ (c : w.0 ≡ d). let F : ℕ → Type 0 = λ j. Closed rs more j in inr (subst F (ap (λ j. get_or queue j 0) (sym c) ∙ w.3) closed))
-            (λ (c : w.0 ≡ d → ⊥). inl (w.0, omega arith, omega arith, g.same w.0 w.2 ∙ w.3))
-            (cases_eq w.0 d))
-            (λ shut. inr (λ p on q. g.kept p on (shut p on q)))
-            (so.open_yet t low old))
-            (λ fresh. let w = fresh.1 in inl (w.0, omega arith, w.2, w.3))
-            (g.new t low f);
-        within = omega arith;
-      }

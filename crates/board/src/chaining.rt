@@ -7,6 +7,9 @@ ghost use Rattle.index.specs.Uses.{heads, uses, used, Wide};
 use model::Rule;
 use scales::Scale;
 
+// A board of no more statements and places than this is done by scans: chains would cost more than they save.
+pub(crate) const FEW: usize = 16;
+
 // The first place with each key, and for each place the next with the same key.
 #[derive(Clone, Copy)]
 pub(crate) struct Chain<'a> {

@@ -1,7 +1,7 @@
 // What is checked before a call: the tables, and the numbers that several calls ask for.
 ghost use Rattle.std.specs.Prelude.{◌≡◌, false, ◌||◌, [], ◌∷◌, length, nat_lt};
-ghost use Rattle.model.specs.Formed.{gap, body_above, malformed as some_malformed, malformed_place};
-ghost use Rattle.pasts.specs.Refusals.{first, check as case_of, outside as out_of_lem};
+ghost use Rattle.model.specs.Formed.{gap as has_gap, body_above, malformed as some_malformed, malformed_place};
+ghost use Rattle.pasts.specs.Refusals.{first, check as case_of, outside as out_of};
 ghost use Rattle.pasts.specs.Tables.{tables, length_checks, table_checks, body_checks};
 ghost use Rattle.pasts.specs.declared.refusal.Refusal.TheVariants.{NoSuchStatement};
 ghost use Rattle.board.specs.Answers.{refusal_of};
@@ -13,40 +13,64 @@ use pasts::{Refusal, Statement};
 // The longest tables of statements and of places.
 const MOST_STATEMENTS: usize = 1024;
 
-const MOST_PLACES: usize = 4096;
+pub(crate) const MOST_PLACES: usize = 4096;
 
 // Whether `k` is 0 or above `most`.
 pub(crate) fn outside(most: usize, k: usize) -> bool
-    ensures { result ≡ out_of_lem most k }
+    ensures { result ≡ out_of most k }
 {
     k == 0 || most < k
 }
 
-// Whether one of four bodies is above `count` or comes after an absent one. Most rules have few bodies, and are done with at the second.
-fn one_misplaced(a: u16, b: u16, c: u16, d: u16, count: usize) -> bool
-    ensures { result ≡ (nat_lt count a || (misplaced_after count a b || (misplaced_after count b c || misplaced_after count c d))) }
+// Whether a body comes after an absent one.
+fn gap(bodies: [u16; 4]) -> bool
+    ensures { result ≡ has_gap bodies }
+{
+    let mut absent = false;
+    for b in bodies {
+        if b == 0 {
+            absent = true;
+        } else if absent {
+            return true;
+        }
+    }
+    false
+}
+
+// Whether a body is above `count`.
+fn names_above(bodies: [u16; 4], count: usize) -> bool
+    ensures { result ≡ body_above count bodies }
+{
+    for b in bodies {
+        if count < b as usize {
+            return true;
+        }
+    }
+    false
+}
+
+// Whether one of three bodies is above `count` or comes after an absent one.
+fn one_misplaced(a: u16, b: u16, c: u16, count: usize) -> bool
+    ensures { result ≡ (nat_lt count a || (misplaced_after count a b || misplaced_after count b c)) }
 {
     if count < a as usize {
         return true;
     }
     if b == 0 {
-        return c != 0 || d != 0;
+        return c != 0;
     }
-    if a == 0 || count < b as usize {
-        return true;
-    }
-    if c == 0 {
-        return d != 0;
-    }
-    count < c as usize || count < d as usize
+    a == 0 || count < b as usize || count < c as usize
 }
 
-// Whether a body is above `count` or comes after an absent one.
+// Whether a body is above `count` or comes after an absent one. Few rules have four bodies: the others need no loops.
 fn ill_placed(bodies: &[u16; 4], count: usize) -> bool
-    ensures { result ≡ (body_above count bodies.now || gap bodies.now) }
+    ensures { result ≡ (body_above count bodies.now || has_gap bodies.now) }
 {
     let [a, b, c, d] = *bodies;
-    one_misplaced(a, b, c, d, count)
+    if d == 0 {
+        return one_misplaced(a, b, c, count);
+    }
+    names_above(*bodies, count) || gap(*bodies)
 }
 
 // Whether there is a rule in the place whose head or a body is above `count`, or whose bodies have a gap.
@@ -90,7 +114,7 @@ pub fn check_tables<G: Copy>(statements: &[Statement<G>], rules: &[Rule<G>]) -> 
 
 // There is a statement `s`.
 pub(crate) fn check_statement<G: Copy>(statements: &[Statement<G>], s: u16) -> Result<(), Refusal>
-    ensures { refusal_of result ≡ first (case_of NoSuchStatement (out_of_lem (length statements.now) s) ∷ []) }
+    ensures { refusal_of result ≡ first (case_of NoSuchStatement (out_of (length statements.now) s) ∷ []) }
 {
     if outside(statements.len(), s as usize) {
         return Err(Refusal::NoSuchStatement);

@@ -3,11 +3,13 @@ ghost use Rattle.std.specs.Prelude.{◌≡◌, ℕ, ◌<◌, ◌≤◌, false, l
 ghost use Rattle.model.specs.Formed.{malformed};
 ghost use Rattle.model.specs.Least.{On};
 ghost use Rattle.pasts.specs.Tables.{unopened};
-ghost use Rattle.board.specs.Flags.{fallen, Falls};
+ghost use Rattle.board.specs.Flags.{flagged, fallen, Leading, Falls};
 
-use crate::chaining::{Chain, chain_uses, no_places};
+use crate::chaining::FEW;
+use crate::checking::MOST_PLACES;
 use crate::leading::flag_leading;
 use crate::marking::{is_open, respond};
+use crate::reaching::flag_by_chains;
 use model::Rule;
 use pasts::{Event, Statement};
 use scales::Scale;
@@ -40,23 +42,29 @@ fn no_flags() -> [bool; 1024]
     [false; 1024]
 }
 
+// Flags exactly the statements that lead to `head`, in the way that suits the table's length.
+fn flag<G: Scale>(rules: &[Rule<G>], head: u16, flags: &mut [bool])
+    requires on { On (length flags.old) head }
+    requires long { length flags.old ≤ 1024 }
+    requires formed { malformed (length flags.old) rules.now ≡ false }
+    requires none { (s : ℕ) → flagged flags.old s ≡ false }
+    ensures { Leading rules.now head flags.new }
+{
+    if rules.len() <= FEW || MOST_PLACES < rules.len() {
+        flag_leading(rules, head, flags);
+    } else {
+        flag_by_chains(rules, head, flags);
+    }
+}
+
 // Exactly the open statements that lead to `head` fall.
 pub(crate) fn fall_from<G: Scale>(statements: &mut [Statement<G>], rules: &[Rule<G>], head: u16)
     requires on { On (length statements.old) head }
     requires few { length statements.old ≤ 1024 }
-    requires places { length rules.now ≤ 4096 }
     requires formed { malformed (length statements.old) rules.now ≡ false }
     ensures { Falls G.meaning rules.now head statements.old statements.new }
 {
-    let mut first = no_places(4 * rules.len() as u16);
-    let mut next = [0; 16384];
-    chain_uses(rules, &mut first, &mut next);
-    let chain = Chain {
-        first: &first,
-        next: &next,
-    };
     let mut flags = no_flags();
-    let mut queue = [0; 1024];
-    flag_leading(rules, chain, head, &mut flags, &mut queue);
+    flag(rules, head, &mut flags);
     fall(statements, &flags);
 }

@@ -1,83 +1,54 @@
-// Which statements lead to one: flags that spread from it, from son to parent, by the chains of uses.
-ghost use Rattle.std.specs.Prelude.{◌≡◌, ℕ, ◌+◌, ◌*◌, ◌<◌, ◌≤◌, true, false, not, length, count_by};
+// Which statements lead to one: flags that spread from it, from son to parent.
+ghost use Rattle.std.specs.Prelude.{◌≡◌, ℕ, ◌≤◌, false, length};
+ghost use Rattle.model.specs.Rules.{present};
 ghost use Rattle.model.specs.Formed.{malformed};
 ghost use Rattle.model.specs.Least.{On};
-ghost use Rattle.index.specs.Chains.{Chained};
-ghost use Rattle.index.specs.Uses.{uses, used, Wide};
-ghost use Rattle.board.specs.Flags.{flagged, Closed, Grown, Leading};
+ghost use Rattle.board.specs.Flags.{flagged, some_flagged, spreading, Leading};
 
-use crate::chaining::Chain;
-use crate::numbered::{at, put};
+use crate::numbered::at;
 use model::Rule;
 use scales::Scale;
 
-fn is_flagged(flags: &[bool], s: u16) -> bool
+pub(crate) fn is_flagged(flags: &[bool], s: u16) -> bool
     requires { 1 ≤ s }
     ensures { result ≡ flagged flags.now s }
 {
     at(flags, s, false)
 }
 
-// Flags the parents of `s`. Those that had no flag come to the queue's end; answers how many are in the queue then.
-fn flag_parents<G: Scale>(
-    rules: &[Rule<G>],
-    chain: Chain<'_>,
-    s: u16,
-    flags: &mut [bool],
-    queue: &mut [u16],
-    waiting: usize,
-) -> usize
-    requires on { On (length flags.old) s }
-    requires keyed { s < length chain.first.now }
-    requires few { length rules.now ≤ 4096 }
-    requires room { 4 * length rules.now ≤ length chain.next.now }
-    requires chains { Chained 0 (used (uses rules.now)) chain.first.now chain.next.now }
-    requires wide { Wide rules.now }
-    requires formed { malformed (length flags.old) rules.now ≡ false }
-    requires fits { waiting + count_by not flags.old ≤ length queue.old }
-    ensures grown { Grown rules.now s flags.old queue.old waiting flags.new queue.new result }
-    ensures closed { Closed rules.now flags.new s }
+// Whether one of the bodies has a flag.
+fn touches(flags: &[bool], bodies: [u16; 4]) -> bool
+    ensures { result ≡ some_flagged flags.now (present bodies) }
 {
-    let mut end = waiting;
-    let mut k = chain.first[s as usize] as usize;
-    while k < 4 * rules.len() {
-        let p = rules[k / 4].head;
-        if !is_flagged(flags, p) {
-            put(flags, p, true);
-            queue[end] = p;
-            end += 1;
+    for b in bodies {
+        if b != 0 && is_flagged(flags, b) {
+            return true;
         }
-        k = chain.next[k] as usize;
     }
-    end
+    false
+}
+
+// The head of a rule that has a flagged body, while the head has no flag yet.
+fn next_parent<G: Scale>(rules: &[Rule<G>], flags: &[bool]) -> Option<u16>
+    ensures { result ≡ spreading flags.now rules.now }
+{
+    for rule in rules {
+        if rule.head != 0 && !is_flagged(flags, rule.head) && touches(flags, rule.bodies) {
+            return Some(rule.head);
+        }
+    }
+    None
 }
 
 // Flags exactly the statements that lead to `head`.
-pub(crate) fn flag_leading<G: Scale>(
-    rules: &[Rule<G>],
-    chain: Chain<'_>,
-    head: u16,
-    flags: &mut [bool],
-    queue: &mut [u16],
-)
+pub(crate) fn flag_leading<G: Scale>(rules: &[Rule<G>], head: u16, flags: &mut [bool])
     requires on { On (length flags.old) head }
-    requires keyed { length flags.old < length chain.first.now }
-    requires few { length rules.now ≤ 4096 }
-    requires room { 4 * length rules.now ≤ length chain.next.now }
-    requires chains { Chained 0 (used (uses rules.now)) chain.first.now chain.next.now }
-    requires wide { Wide rules.now }
     requires formed { malformed (length flags.old) rules.now ≡ false }
     requires none { (s : ℕ) → flagged flags.old s ≡ false }
-    requires long { length flags.old ≤ length queue.old }
     ensures { Leading rules.now head flags.new }
 {
-    put(flags, head, true);
-    queue[0] = head;
-    let mut waiting = 1;
-    let mut done = 0;
-    while done < waiting {
-        let s = queue[done];
-        waiting = flag_parents(rules, chain, s, flags, queue, waiting);
-        done += 1;
+    flags[head as usize - 1] = true;
+    while let Some(p) = next_parent(rules, flags) {
+        flags[p as usize - 1] = true;
     }
 }

@@ -1,11 +1,9 @@
-use Rattle.std.proofs.Common.{◌≡◌, ℕ, ◌-◌, ◌*◌, false, length, replicate, sym, ap, ◌∙◌, subst, ⊎_elim, arith}
+use Rattle.std.proofs.Common.{◌≡◌, ℕ, ◌-◌, false, length, replicate, sym, ap, ◌∙◌, subst, ⊎_elim, arith}
 use lib.ListN.{length-replicate}
 use Rattle.std.proofs.lemmas.List.{get_or-replicate, get_or_past}
 use Rattle.std.proofs.lemmas.Bool.{cases_lt}
 use Rattle.model.specs.Formed.{malformed}
 use Rattle.board.specs.Flags.{flagged}
-use Rattle.pasts.specs.Tables.{blank}
-use Rattle.board.proofs.Chained.{uses_keyed, filled_length, filled_at}
 use Rattle.board.proofs.Spread.{formed_more}
 use Rattle.board.proofs.Fallen.{falls_by}
 use Rattle.board.proofs.falling.fall_from.Goals as goal
@@ -17,32 +15,12 @@ none_flagged n s =
     (λ h. get_or_past (replicate n false) (s - 1) false (rw length-replicate h))
     (cases_lt (s - 1) n)
 
-pub chain_uses-requires : goal.chain_uses-requires
-chain_uses-requires g c =
-    let rs = c.args.rules.now in
-    let n = length c.args.statements.now in
-    let few = c.requires.few in
-    let places = c.requires.places in
-    let long : length c.no_places-first.result ≡ 1025 = filled_length 1025 (4 * length rs) c.no_places-first.result c.no_places-first.ensures in
-    record {
-      few = c.requires.places;
-      room = omega arith;
-      keyed = λ k h. let l = uses_keyed n rs k (blank g.G.Scale.meaning) c.requires.formed h in omega arith;
-      empty = filled_at 1025 (4 * length rs) c.no_places-first.result c.no_places-first.ensures;
-    }
-
-pub flag_leading-requires : goal.flag_leading-requires
-flag_leading-requires g c =
+pub flag-requires : goal.flag-requires
+flag-requires g c =
     let fl = c.no_flags-flags.result in
     let long : length fl ≡ 1024 = ap length c.no_flags-flags.ensures ∙ length-replicate 1024 false in
-    let long-first : length c.no_places-first.result ≡ 1025 = filled_length 1025 (4 * length c.args.rules.now) c.no_places-first.result c.no_places-first.ensures in
     let F : ℕ → Type 0 = λ n. malformed n c.args.rules.now ≡ false in record {
       on = (c.requires.on.0, omega (arith, c.requires.on.1, c.requires.few));
-      keyed = omega (arith, long-first, c.chain_uses.auto.first);
-      few = c.requires.places;
-      room = omega arith;
-      chains = c.chain_uses.ensures.chains;
-      wide = c.chain_uses.ensures.wide;
       long = omega arith;
       formed = subst F (sym long) (formed_more (length c.args.statements.now) 1024 c.requires.few c.args.rules.now c.requires.formed);
       none = λ s. ap (λ l. flagged l s) c.no_flags-flags.ensures ∙ none_flagged 1024 s;
@@ -52,4 +30,4 @@ pub returns : goal.returns
 returns g c =
     let fl = c.no_flags-flags.result in
     let long : length fl ≡ 1024 = ap length c.no_flags-flags.ensures ∙ length-replicate 1024 false in
-    falls_by g.G.Scale.meaning c.args.rules.now c.args.head c.args.statements.now c.fall.new.statements c.flag_leading.new.flags c.fall.auto.statements (omega (arith, c.flag_leading.auto.flags, c.requires.few)) c.flag_leading.ensures c.fall.ensures
+    falls_by g.G.Scale.meaning c.args.rules.now c.args.head c.args.statements.now c.fall.new.statements c.flag.new.flags c.fall.auto.statements (omega (arith, c.flag.auto.flags, c.requires.few)) c.flag.ensures c.fall.ensures

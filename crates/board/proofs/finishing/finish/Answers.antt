@@ -13,9 +13,9 @@ returns-in_err-check_tables g c =
 
 pub returns : goal.returns
 returns g c =
-    finish_done g.V.Grade.Scale.meaning (g.V.Survey.degrees c.args.survey.now) (tables c.args.statements.now c.args.rules.now) c.run_indexed.result (tables c.run_indexed.new.statements c.args.rules.now) c.in_ok-check_tables.ensures c.run_indexed.ensures
+    finish_done g.V.Grade.Scale.meaning (g.V.Survey.degrees c.args.survey.now) (tables c.args.statements.now c.args.rules.now) c.run_either.result (tables c.run_either.new.statements c.args.rules.now) c.in_ok-check_tables.ensures c.run_either.ensures
 
-pub run_indexed-requires : goal.run_indexed-requires
-run_indexed-requires g c =
+pub run_either-requires : goal.run_either-requires
+run_either-requires g c =
     let ok = tables_checked (tables c.args.statements.now c.args.rules.now) (sym c.in_ok-check_tables.ensures) in
     record { few = ok.0.1; places = ok.1.1; formed = ok.2 }

@@ -1,48 +1,65 @@
-use Rattle.std.proofs.Common.{◌≡◌, ℕ, Bool, false, List, length, set, sym, subst, ⊎_elim, arith, length-set}
-use Rattle.model.specs.Formed.{malformed}
-use Rattle.board.proofs.Spread.{Spreading, spreading_first, spreading_more, all_lead}
+use Rattle.std.proofs.Common.{◌≡◌, ℕ, ◌-◌, true, false, length, sym, subst, ⊎_elim, arith, length-set}
+use Rattle.std.proofs.lemmas.Bool.{both_ways}
+use Rattle.model.specs.Least.{On}
+use Rattle.model.specs.Rules.{Leads, here, by_son}
+use Rattle.board.specs.Flags.{flagged}
+use Rattle.model.proofs.Sons.{son_on}
+use Rattle.board.proofs.Spread.{spread_some, all_lead, fewer, flag_more, flag_kept}
+use Rattle.std.proofs.lemmas.List.{get_or-set_same}
 use Rattle.board.proofs.leading.flag_leading.Goals as goal
 
-pub loop-done-init : goal.loop-done-init
-loop-done-init g c =
-    let F : List Bool → Type 0 = λ f. Spreading c.args.rules.now c.args.head f (set c.args.queue.now 0 c.args.head) 0 1 in
-    subst F (sym c.put.ensures) (spreading_first c.args.rules.now c.args.head c.args.flags.now c.args.queue.now c.requires.on c.requires.none (omega arith))
+pub loop-p-init : goal.loop-p-init
+loop-p-init g c =
+    let fl = c.args.flags.now in
+    let h = c.args.head in (
+      (λ s pos e. ⊎_elim
+          (λ q. let F : ℕ → Type 0 = λ k. Leads c.args.rules.now k h in subst F (sym q) here)
+          (λ q. absurd (both_ways (flagged fl s) (c.requires.none s) q))
+          (flag_more fl h s c.requires.on pos e)),
+      get_or-set_same fl (h - 1) true false (omega arith),
+    )
 
-pub flag_parents-waiting-requires : goal.flag_parents-waiting-requires
-flag_parents-waiting-requires g c =
-    let so = c.loop-done.invariant in
-    let at = so.named c.loop-done.done c.loop-done-test.true in
-    let long : length c.loop-done.flags ≡ length c.args.flags.now = omega arith in
-    let F : ℕ → Type 0 = λ n. malformed n c.args.rules.now ≡ false in
-    let few = so.few in
-    record {
-      on = at.0;
-      keyed = omega arith;
-      few = c.requires.few;
-      room = c.requires.room;
-      chains = c.requires.chains;
-      wide = c.requires.wide;
-      formed = subst F (sym long) c.requires.formed;
-      fits = omega (arith, c.loop-done.auto.queue, length-set c.args.queue.now 0 c.args.head);
-    }
+pub overflow_sub-flags-in-Some : goal.overflow_sub-flags-in-Some
+overflow_sub-flags-in-Some g c =
+    (spread_some c.loop-p.flags (length c.args.flags.now) c.in-Some.p c.args.rules.now c.requires.formed (sym c.in-Some.ensures)).on.0
 
-pub loop-done-preserved : goal.loop-done-preserved
-loop-done-preserved g c =
-    spreading_more c.args.rules.now c.args.head c.requires.on.0 c.loop-done.flags c.flag_parents-waiting.new.flags c.loop-done.queue c.flag_parents-waiting.new.queue c.loop-done.done c.loop-done.waiting c.flag_parents-waiting.result c.loop-done-test.true c.flag_parents-waiting.auto.flags c.loop-done.invariant c.flag_parents-waiting.ensures.grown c.flag_parents-waiting.ensures.closed
+pub bounds-flags-p : goal.bounds-flags-p
+bounds-flags-p g c =
+    let sp = spread_some c.loop-p.flags (length c.args.flags.now) c.in-Some.p c.args.rules.now c.requires.formed (sym c.in-Some.ensures) in
+    let low = sp.on.0 in
+    let high = sp.on.1 in
+    omega (arith, length-set c.args.flags.now (c.args.head - 1) true)
 
-pub loop-done-smaller : goal.loop-done-smaller
-loop-done-smaller g c =
-    let few = c.loop-done.invariant.few in
-    let same = c.flag_parents-waiting.auto.flags in
-    omega arith
+pub loop-p-preserved : goal.loop-p-preserved
+loop-p-preserved g c =
+    let fl = c.loop-p.flags in
+    let h = c.args.head in
+    let p = c.in-Some.p in
+    let sp = spread_some fl (length c.args.flags.now) p c.args.rules.now c.requires.formed (sym c.in-Some.ensures) in
+    let high = sp.on.1 in
+    let on : On (length fl) p = (sp.on.0, omega (arith, length-set c.args.flags.now (c.args.head - 1) true)) in
+    let sons = son_on (length c.args.flags.now) c.args.rules.now p sp.from c.requires.formed sp.on.0 sp.its_son in (
+      (λ s pos e. ⊎_elim
+          (λ q. let F : ℕ → Type 0 = λ k. Leads c.args.rules.now k h in subst F (sym q) (by_son sp.its_son (c.loop-p.invariant.0 sp.from sons.0 sp.was)))
+          (λ q. c.loop-p.invariant.0 s pos q)
+          (flag_more fl p s on pos e)),
+      flag_kept fl p h on c.requires.on.0 c.loop-p.invariant.1,
+    )
+
+pub loop-p-smaller : goal.loop-p-smaller
+loop-p-smaller g c =
+    let fl = c.loop-p.flags in
+    let sp = spread_some fl (length c.args.flags.now) c.in-Some.p c.args.rules.now c.requires.formed (sym c.in-Some.ensures) in
+    let low = sp.on.0 in
+    let high = sp.on.1 in
+    fewer fl (c.in-Some.p - 1) (omega (arith, length-set c.args.flags.now (c.args.head - 1) true)) sp.new
 
 pub returns : goal.returns
 returns g c =
-    let so = c.loop-done.invariant in
-    let fl = c.loop-done.flags in
+    let fl = c.loop-p.flags in
     let n = length c.args.flags.now in
-    let long : length fl ≡ n = omega arith in
+    let same : length fl ≡ n = omega (arith, length-set c.args.flags.now (c.args.head - 1) true) in
     record {
-      only = λ s on e. so.only s on.0 e;
-      every = λ s on l. all_lead fl n c.args.rules.now c.requires.formed (λ t pos f. ⊎_elim (λ w. absurd (omega (arith, w.1, w.2))) (λ shut. shut) (so.open_yet t pos f)) (on.0, omega arith) l so.own;
+      only = λ s on e. c.loop-p.invariant.0 s on.0 e;
+      every = λ s on l. all_lead fl n c.args.rules.now c.requires.formed c.in_default.ensures (on.0, omega arith) l c.loop-p.invariant.1;
     }

@@ -1,9 +1,12 @@
-use Rattle.std.proofs.Common.{◌-◌, length}
-use Rattle.board.proofs.Spread.{Spreading}
+use Rattle.std.proofs.Common.{◌≡◌, ℕ, ◌≤◌, true, not, count_by}
+use Rattle.model.specs.Rules.{Leads}
+use Rattle.board.specs.Flags.{flagged}
 use Rattle.board.proofs.leading.flag_leading.Given as goal
 
-abbrev pub invariant-loop-done : goal.invariant-loop-done
-invariant-loop-done g l = Spreading l.rules l.head l.flags l.queue l.done l.waiting
+abbrev pub invariant-loop-p : goal.invariant-loop-p
+invariant-loop-p g l =
+    ((s : ℕ) → 1 ≤ s → flagged l.flags s ≡ true → Leads l.rules s l.head)
+    × (flagged l.flags l.head ≡ true)
 
-abbrev pub decreases-loop-done : goal.decreases-loop-done
-decreases-loop-done g l = length l.flags - l.done
+abbrev pub decreases-loop-p : goal.decreases-loop-p
+decreases-loop-p g l = count_by not l.flags

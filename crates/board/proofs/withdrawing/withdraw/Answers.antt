@@ -31,7 +31,6 @@ fall_from-requires g c =
     record {
       on = subst F (sym c.head_at-head.ensures) (head_on (length c.args.statements.now) (c.args.k - 1) (blank m) c.args.rules.now sound.2 (omega arith) old.1);
       few = sound.0.1;
-      places = sound.1.1;
       formed = sound.2;
     }
 

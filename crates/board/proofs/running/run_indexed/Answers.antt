@@ -2,7 +2,7 @@ use Rattle.std.proofs.Common.{◌≡◌, ◌*◌, ◌≤◌, length, arith}
 use Rattle.pasts.specs.Tables.{blank}
 use Rattle.board.proofs.Noted.{none_in}
 use Rattle.board.proofs.Chained.{heads_keyed, uses_keyed, filled_length, filled_at}
-use Rattle.board.proofs.finishing.run_indexed.Goals as goal
+use Rattle.board.proofs.running.run_indexed.Goals as goal
 
 pub chain_heads-requires : goal.chain_heads-requires
 chain_heads-requires g c =
@@ -17,8 +17,8 @@ chain_heads-requires g c =
       empty = filled_at 1025 (length rs) c.no_places-first.result c.no_places-first.ensures;
     }
 
-pub run-requires : goal.run-requires
-run-requires g c =
+pub run_noted-requires : goal.run_noted-requires
+run_noted-requires g c =
     let few = c.requires.few in
     let places = c.requires.places in
     let rs = c.args.rules.now in

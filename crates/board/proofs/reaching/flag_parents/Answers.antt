@@ -8,9 +8,10 @@ use Rattle.index.specs.Uses.{uses, used, users, use_by}
 use Rattle.index.proofs.Chains.{place_key}
 use Rattle.index.proofs.Uses.{users_place, users_more, users_done, getD_uses, getD_used, length_used, length_uses, holds_users, use_parent}
 use Rattle.board.specs.Flags.{flagged, Grown}
-use Rattle.board.proofs.Spread.{grown_none, grown_more, flag_kept, fewer, head_on}
-use Rattle.board.proofs.leading.flag_parents.Goals as goal
-use Rattle.board.proofs.leading.flag_parents.Goals.{then-not-is_flagged, else-not-is_flagged}
+use Rattle.board.proofs.Spread.{flag_kept, fewer, head_on}
+use Rattle.board.proofs.Queued.{grown_none, grown_more}
+use Rattle.board.proofs.reaching.flag_parents.Goals as goal
+use Rattle.board.proofs.reaching.flag_parents.Goals.{then-not-is_flagged, else-not-is_flagged}
 
 none_held : (p : ℕ) → holds [] p ≡ true → ◌≡◌ {A = ℕ} 0 1
 none_held p e = cc

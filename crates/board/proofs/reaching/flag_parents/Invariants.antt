@@ -2,7 +2,7 @@ use Rattle.std.proofs.Common.{◌≡◌, ℕ, ◌-◌, ◌*◌, ◌<◌, ◌≤�
 use Rattle.model.specs.Rules.{holds}
 use Rattle.index.specs.Uses.{uses, used, users}
 use Rattle.board.specs.Flags.{flagged, Grown}
-use Rattle.board.proofs.leading.flag_parents.Given as goal
+use Rattle.board.proofs.reaching.flag_parents.Given as goal
 
 abbrev pub invariant-loop-k : goal.invariant-loop-k
 invariant-loop-k g l =

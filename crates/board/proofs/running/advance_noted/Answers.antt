@@ -3,7 +3,7 @@ use Rattle.std.proofs.lemmas.Bool.{both_ways}
 use Rattle.pasts.specs.Tables.{entered}
 use Rattle.board.proofs.Noted.{noted_set, taken_rests}
 use Rattle.board.proofs.Opened.{sons_taken}
-use Rattle.board.proofs.finishing.advance_noted.Goals as goal
+use Rattle.board.proofs.running.advance_noted.Goals as goal
 
 pub chain_worth-new-requires : goal.chain_worth-new-requires
 chain_worth-new-requires g c = record { on = omega arith; room = c.requires.index.room; chains = c.requires.index.by_head }
