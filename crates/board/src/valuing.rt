@@ -1,6 +1,6 @@
 // What one rule says of its head, under the grades that the statements hold.
 ghost use Rattle.std.specs.Prelude.{◌≡◌, ◌≤◌, T};
-ghost use Rattle.model.specs.Rules.{present, blends, value as value_of_lem};
+ghost use Rattle.model.specs.Rules.{present, blends, value as value_of};
 ghost use Rattle.pasts.specs.Tables.{grades};
 ghost use Rattle.board.specs.Values.{combined, gathered, Stands};
 
@@ -63,7 +63,7 @@ fn gather<G: Scale>(statements: &[Statement<G>], form: Form, bodies: [u16; 4]) -
 
 // What the rule says of its head, wherever its bodies stand.
 fn any_value<G: Scale>(statements: &[Statement<G>], rule: &Rule<G>) -> G
-    ensures { result ≡ value_of_lem G.meaning (grades G.meaning statements.now) rule.now }
+    ensures { result ≡ value_of G.meaning (grades G.meaning statements.now) rule.now }
 {
     match rule.form {
         Form::Chain => chain(statements, rule.weight, rule.bodies),
@@ -123,7 +123,7 @@ fn standing<G: Scale>(statements: &[Statement<G>], bodies: &[u16; 4]) -> Extent
 // What a rule with two bodies says.
 fn two<G: Scale>(statements: &[Statement<G>], rule: &Rule<G>) -> G
     requires { Stands Extent.Two rule.now.bodies }
-    ensures { result ≡ value_of_lem G.meaning (grades G.meaning statements.now) rule.now }
+    ensures { result ≡ value_of G.meaning (grades G.meaning statements.now) rule.now }
 {
     let w = rule.weight;
     let [a, b, _, _] = rule.bodies;
@@ -139,7 +139,7 @@ fn two<G: Scale>(statements: &[Statement<G>], rule: &Rule<G>) -> G
 // What a rule with three bodies says.
 fn three<G: Scale>(statements: &[Statement<G>], rule: &Rule<G>) -> G
     requires { Stands Extent.Three rule.now.bodies }
-    ensures { result ≡ value_of_lem G.meaning (grades G.meaning statements.now) rule.now }
+    ensures { result ≡ value_of G.meaning (grades G.meaning statements.now) rule.now }
 {
     let w = rule.weight;
     let [a, b, c, _] = rule.bodies;
@@ -164,7 +164,7 @@ fn three<G: Scale>(statements: &[Statement<G>], rule: &Rule<G>) -> G
 // What a rule with four bodies says.
 fn four<G: Scale>(statements: &[Statement<G>], rule: &Rule<G>) -> G
     requires { Stands Extent.Four rule.now.bodies }
-    ensures { result ≡ value_of_lem G.meaning (grades G.meaning statements.now) rule.now }
+    ensures { result ≡ value_of G.meaning (grades G.meaning statements.now) rule.now }
 {
     let w = rule.weight;
     let [a, b, c, d] = rule.bodies;
@@ -191,7 +191,7 @@ fn four<G: Scale>(statements: &[Statement<G>], rule: &Rule<G>) -> G
 
 // What the rule says of its head: its weight alone if it has no body, else by its form.
 pub(crate) fn value<G: Scale>(statements: &[Statement<G>], rule: &Rule<G>) -> G
-    ensures { result ≡ value_of_lem G.meaning (grades G.meaning statements.now) rule.now }
+    ensures { result ≡ value_of G.meaning (grades G.meaning statements.now) rule.now }
 {
     match standing(statements, &rule.bodies) {
         Extent::One => rule.weight.blend(grade_of(statements, rule.bodies[0])),
