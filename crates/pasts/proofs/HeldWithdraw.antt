@@ -23,45 +23,45 @@ blank_apart : (n s : ℕ) → On n s → eqb 0 s ≡ false
 blank_apart n s on = ne_eqb 0 s (omega arith)
 
 module _ {G : Type 0} (m : Meaning G) (k : ℕ) (t : Tables G) where
-  abbrev lost : ℕ → Type 0
-  lost s = Leads t.rules s (rule_at m t k).head
+  abbrev Lost : ℕ → Type 0
+  Lost s = Leads t.rules s (rule_at m t k).head
 
   abbrev left : List (Rule G)
   left = set t.rules (k - 1) (blank m)
 
-  was_apart : (s : ℕ) → (lost s → ⊥) → eqb (rule_at m t k).head s ≡ false
+  was_apart : (s : ℕ) → (Lost s → ⊥) → eqb (rule_at m t k).head s ≡ false
   was_apart s far = ne_eqb (rule_at m t k).head s (λ e. far (subst (λ x. Leads t.rules s x) (sym e) here))
 
   -- a statement that does not lead to the head has the sons and the worth that it had, and they do not lead there either
-  same_son : (s x : ℕ) → On (count t) s → (lost s → ⊥) → son left s x ≡ son t.rules s x
+  same_son : (s x : ℕ) → On (count t) s → (Lost s → ⊥) → son left s x ≡ son t.rules s x
   same_son s x on far = put_son s x t.rules (k - 1) (blank m) (blank m) (was_apart s far) (blank_apart (count t) s on)
 
-  same_worth : (degree : ℕ → G) (g : ℕ → G) (s : ℕ) → On (count t) s → (lost s → ⊥) → worth m degree left g s ≡ worth m degree t.rules g s
+  same_worth : (degree : ℕ → G) (g : ℕ → G) (s : ℕ) → On (count t) s → (Lost s → ⊥) → worth m degree left g s ≡ worth m degree t.rules g s
   same_worth degree g s on far = put_joined m g s t.rules (k - 1) (blank m) (blank m) (degree s) (was_apart s far) (blank_apart (count t) s on)
 
-  sons_far : (s x : ℕ) → (lost s → ⊥) → son t.rules s x ≡ true → lost x → ⊥
+  sons_far : (s x : ℕ) → (Lost s → ⊥) → son t.rules s x ≡ true → Lost x → ⊥
   sons_far s x far q l = far (by_son q l)
 
   module _ (ok : malformed (count t) t.rules ≡ false) (laws : Laws m) (degree : ℕ → G) where
-    rounds_kept : (i s : ℕ) → On (count t) s → (lost s → ⊥) → Under m (rounds m degree t.rules i s) (rounds m degree left i s)
+    rounds_kept : (i s : ℕ) → On (count t) s → (Lost s → ⊥) → Under m (rounds m degree t.rules i s) (rounds m degree left i s)
     rounds_kept zero s on far = same laws _
     rounds_kept (suc i) s on far =
         let old = rounds m degree t.rules i in
         let sons : (x : ℕ) → son left s x ≡ true → Under m (old x) (rounds m degree left i x) = λ x q. let p = sym (same_son s x on far) ∙ q in rounds_kept i x (son_on (count t) t.rules s x ok on.0 p) (sons_far s x far p) in
         laws.transitive _ _ _ (under_eq laws (sym (same_worth degree old s on far))) (worth_rises laws degree left old (rounds m degree left i) s sons)
 
-    least_kept : (s : ℕ) → On (count t) s → (lost s → ⊥) → Under m (least m degree t.rules (count t) s) (least m degree left (count t) s)
+    least_kept : (s : ℕ) → On (count t) s → (Lost s → ⊥) → Under m (least m degree t.rules (count t) s) (least m degree left (count t) s)
     unfolding least
     least_kept s on far = rounds_kept (count t * m.height) s on far
 
   module _ {u : Tables G} (w : Withdraws m k t u) where
-    far_grade : (s : ℕ) → On (count t) s → (lost s → ⊥) → grade m u s ≡ grade m t s
+    far_grade : (s : ℕ) → On (count t) s → (Lost s → ⊥) → grade m u s ≡ grade m t s
     far_grade s on far = ap (λ x. x.grade) (w.apart s on far)
 
     pub withdraw_open : (s : ℕ) → On (count t) s → open_mark (mark m t s) ≡ true → open_mark (mark m u s) ≡ true
-    withdraw_open s on o = either_way (lost s) (open_mark (mark m u s)) (λ l. ap (λ x. open_mark x.mark) (w.falls s on o l) ∙ stays_open (mark m t s) SonRose o) (λ far. ap (λ x. open_mark x.mark) (w.apart s on far) ∙ o)
+    withdraw_open s on o = either_way (Lost s) (open_mark (mark m u s)) (λ l. ap (λ x. open_mark x.mark) (w.falls s on o l) ∙ stays_open (mark m t s) SonRose o) (λ far. ap (λ x. open_mark x.mark) (w.apart s on far) ∙ o)
 
-    quiet_far : (s : ℕ) → On (count t) s → mark m u s ≡ Quiet → lost s → ⊥
+    quiet_far : (s : ℕ) → On (count t) s → mark m u s ≡ Quiet → Lost s → ⊥
     quiet_far s on q l =
         let shut : open_mark (mark m t s) ≡ false → ⊥ = λ o. both_ways _ o (ap (λ x. open_mark x.mark) (sym (w.closed s on o)) ∙ quiet_open _ q) in
         by_test (open_mark (mark m t s)) (λ o. quiet_told (mark m t s) (sym (ap (λ x. x.mark) (w.falls s on o l)) ∙ q)) shut
@@ -71,7 +71,7 @@ module _ {G : Type 0} (m : Meaning G) (k : ℕ) (t : Tables G) where
 
     module _ {degree : ℕ → G} (held : Held m degree t) where
       -- one that leads to the head is lowest after, be it open or not
-      fallen : (s : ℕ) → On (count t) s → lost s → grade m u s ≡ m.lowest
+      fallen : (s : ℕ) → On (count t) s → Lost s → grade m u s ≡ m.lowest
       fallen s on l =
           by_test (open_mark (mark m t s)) (λ o. ap (λ x. x.grade) (w.falls s on o l)) (λ o. ap (λ x. x.grade) (w.closed s on o) ∙ held.unopened_lowest s on o)
 
@@ -86,10 +86,10 @@ module _ {G : Type 0} (m : Meaning G) (k : ℕ) (t : Tables G) where
 
       module _ (laws : Laws m) where
         -- Under is a test, so it holds whether or not s leads to the head
-        if_far : (b : ℕ → G) (s : ℕ) → On (count t) s → ((lost s → ⊥) → Under m (grade m t s) (b s)) → Under m (grade m u s) (b s)
-        if_far b s on h = either_way (lost s) (m.below (grade m u s) (b s)) (λ l. rw (fallen s on l) (laws.from_lowest _)) (λ far. rw (far_grade s on far) (h far))
+        if_far : (b : ℕ → G) (s : ℕ) → On (count t) s → ((Lost s → ⊥) → Under m (grade m t s) (b s)) → Under m (grade m u s) (b s)
+        if_far b s on h = either_way (Lost s) (m.below (grade m u s) (b s)) (λ l. rw (fallen s on l) (laws.from_lowest _)) (λ far. rw (far_grade s on far) (h far))
 
-        worth_kept : (s : ℕ) → On (count t) s → (lost s → ⊥) → Same m (worth m degree t.rules (grade m t) s) (worth m degree left (grade m u) s)
+        worth_kept : (s : ℕ) → On (count t) s → (Lost s → ⊥) → Same m (worth m degree t.rules (grade m t) s) (worth m degree left (grade m u) s)
         worth_kept s on far =
             worth_same laws degree t.rules (grade m t) (grade m u) s (λ x q. ap m.stands (sym (far_grade x (son_on (count t) t.rules s x held.well_formed on.0 q) (sons_far s x far q)))) ∙ ap m.stands (sym (same_worth degree (grade m u) s on far))
 
