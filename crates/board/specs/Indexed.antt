@@ -3,7 +3,7 @@
 --                                 the statements used
 --     Noted m words xs            every active one of the statements xs is in the set, by its place; others may be in it too
 --     Resting m k xs              none of the first k statements is active
---     SonsOpen m rules xs s      every son of s among the statements xs is open
+--     SonsOpen m rules xs s       every son of s among the statements xs is open
 use Rattle.std.specs.Prelude.{◌≡◌, ℕ, ◌*◌, ◌<◌, ◌≤◌, true, false, List, length, slice_index_or}
 use Rattle.scales.specs.Meaning.{Meaning}
 use Rattle.model.specs.Rules.{son}

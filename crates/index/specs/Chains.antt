@@ -5,7 +5,7 @@
 --                                 has the following one with the same key
 --     places i s keys             the places of the keys s in rising order, the first key being in the place i
 --     Follows next n k ks         from the place k on `next` leads through the places ks, and then out of the n places
---     ChainsList                 from first to last, a chain leads through exactly the places with its key, in rising order
+--     ChainsList                  from first to last, a chain leads through exactly the places with its key, in rising order
 use Rattle.std.specs.Prelude.{◌≡◌, ℕ, ◌+◌, ◌<◌, ◌≤◌, cond, List, [], ◌∷◌, length, drop, ◌==◌, slice_index}
 
 abbrev pub before : ℕ → List ℕ → ℕ

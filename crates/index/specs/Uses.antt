@@ -6,7 +6,7 @@
 --     used us             the statements that they name, the keys by which uses are chained
 --     users us s          the heads of the uses of s
 --     Wide rules          every rule has four bodies, absent ones counted
---     UsersAre G         the users of a statement are exactly those that have it for a son
+--     UsersAre G          the users of a statement are exactly those that have it for a son
 use Rattle.std.specs.Prelude.{◌≡◌, ℕ, ◌<◌, ◌≤◌, cond, List, [], ◌∷◌, map, length, ◌==◌, slice_index, slice_index_or}
 use Rattle.model.specs.Rules.{holds, son}
 use Rattle.model.specs.declared.rule.Rule.{Rule}

@@ -4,8 +4,8 @@
 --     member words i      whether it is
 --     with words i        the words once i is put in, where there is a word for it
 --     trimmed n           n without its lowest digit that is 1
---     TrimmingIs         what is left of a number by trimming: the digits that stand above another one that is 1
---     PuttingIs          what putting a number in does: it is in the set then, and the others are as they were
+--     TrimmingIs          what is left of a number by trimming: the digits that stand above another one that is 1
+--     PuttingIs           what putting a number in does: it is in the set then, and the others are as they were
 use Rattle.std.specs.Prelude.{◌≡◌, ℕ, ◌-◌, ◌/◌, ◌%◌, ◌^◌, ◌<◌, Bool, List, length, ◌==◌, ◌≢◌, bit_and, bit_or, slice_index, slice_set}
 
 abbrev pub digit : ℕ → ℕ → ℕ

@@ -1,5 +1,5 @@
 -- What is proved of every well_formed table of rules over n statements. Assumes nothing.
---     WorthsRise m degree        grades at or above others give worths at or above theirs
+--     WorthsRise m degree       grades at or above others give worths at or above theirs
 --     LeastIsLeast m degree     least is the least model
 --     LeastIsFixed m degree     each grade of least is its statement's worth
 --     LeadsIsDecided G          whether one statement leads to another can be decided

@@ -1,14 +1,14 @@
 -- What the words of a rule mean. Assumes nothing.
 --     OneOf r rules              r is one of the rules
---     Body b bs                   b is one of the bodies bs, and not absent
+--     Body b bs                  b is one of the bodies bs, and not absent
 --     AfterAbsent bs             one of bs is absent, and a body comes after it
 --     JoinOf m P g, MeetOf m P g    g is the join, or the meet, of the grades that P holds of
---     Says m degree rules f s a   a is the degree of s, or the value of one of its rules
+--     Says m degree rules f s a  a is the degree of s, or the value of one of its rules
 --     GradeOf m f bs a           a is the grade of one of the bodies bs
---     Chained m f g bs w          w is g with the bodies bs blended in from the left, each as right operand
+--     Chained m f g bs w         w is g with the bodies bs blended in from the left, each as right operand
 --     SonIs G                    t is a son of s if it is a body of a rule with head s, and else not
 --     MalformedIs G              what a malformed place is
---     WorthIsJoin m degree      the worth of s is the join of its degree and the values of the rules with head s
+--     WorthIsJoin m degree       the worth of s is the join of its degree and the values of the rules with head s
 --     FormsAre m                 a rule with no body says its weight; else the weight blended with the meet of all its bodies, or with the
 --                                 join, or with one body after the other
 use Rattle.std.specs.Prelude.{◌≡◌, ℕ, ◌<◌, true, List, [], ◌∷◌, ◌≢◌}

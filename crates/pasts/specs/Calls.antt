@@ -5,7 +5,7 @@
 --     Withdraws m k t u           the place k becomes blank; exactly the open statements that lead to its head fall to lowest, and are
 --                                 told as if a son had risen
 --     Next m xs s                 s is the active statement with the lowest number
---     MarksAfter m s rose t u    the marks of u, once s of t was taken, and rose or not
+--     MarksAfter m s rose t u     the marks of u, once s of t was taken, and rose or not
 --     Steps m degree s rose t u   the step from t to u, that takes s
 --     Runs m degree k t u         k steps lead from t to u
 --     Finishes m degree k t u     they do, and none is active in u

@@ -3,16 +3,16 @@
 --     budget m t n                over the open ones of the first n statements, one plus the sons times the height
 --     AfterSteps m degree k t u   k accepted calls of step lead from t to u
 -- The theorems, each over a scale and a survey's degrees:
---     OneOutcome, SomeOutcome   a call has an outcome, and no two; so a finish ends
---     ClearHasOneOutcome       so has a clear, which is no entry of a past but begins one, and asks no survey
---     WithdrawIsLocal           a withdraw alters only open statements that lead to the withdrawn rule's head
---     AddIsLocal                an add alters no grade, and no mark but its head's
+--     OneOutcome, SomeOutcome     a call has an outcome, and no two; so a finish ends
+--     ClearHasOneOutcome          so has a clear, which is no entry of a past but begins one, and asks no survey
+--     WithdrawIsLocal             a withdraw alters only open statements that lead to the withdrawn rule's head
+--     AddIsLocal                  an add alters no grade, and no mark but its head's
 --     Wakes                       an add makes its head active if that is open, a withdraw every open statement that leads to its head,
 --                                 which falls to lowest, and a want an unopened one
---     WantIsLocal               a want alters no grade, and no mark but that of the unopened statement that it asks for
---     FinishIsBounded           a finish takes at most so many steps as its budget
---     FinishCounts               a finish that answers k leaves what k accepted steps leave, with none active
---     FinishFits                 so many steps fit the answer: at most 68718429184, the budget of 1024 open statements, each with
+--     WantIsLocal                 a want alters no grade, and no mark but that of the unopened statement that it asks for
+--     FinishIsBounded             a finish takes at most so many steps as its budget
+--     FinishCounts                a finish that answers k leaves what k accepted steps leave, with none active
+--     FinishFits                  so many steps fit the answer: at most 68718429184, the budget of 1024 open statements, each with
 --                                 1024 sons, on the highest scale
 use Rattle.std.specs.Prelude.{◌≡◌, ℕ, zero, suc, ◌+◌, ◌*◌, ◌≤◌, Bool, true, false, cond, List, Option, ◌≢◌}
 use Rattle.scales.specs.Meaning.{Meaning}

@@ -7,7 +7,7 @@
 --     in_force m p h              the p places after the past h, as a list: each rule is there from the accepted add that
 --                                 brought it to the accepted withdraw that took it
 --     Past m degree n p h t       the calls h, newest first, on the cleared tables of n statements and p places left t
---     EveryPast m degree P       P holds after every past
+--     EveryPast m degree P        P holds after every past
 --     least_grade m degree n p h s    the grade of s in the least model of the rules in force
 use Rattle.std.specs.Prelude.{◌≡◌, ℕ, ◌-◌, Bool, true, false, cond, List, [], ◌∷◌, replicate, slice_set}
 use Rattle.scales.specs.Meaning.{Meaning}

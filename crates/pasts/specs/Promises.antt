@@ -8,9 +8,9 @@
 --     Promise m degree n p h t    all of this, and what the next call does, whichever it is
 -- The theorems, each over a scale and a survey's degrees:
 --     StaysSound, StaysUsable, KeepsItsShelf, ReadIsSettled, WantsAreServed, KeepsItsPromise   each after every past
---     SameRules xs ys            xs and ys have the same rules, in whatever places and order, and however often; blank places do not count
---     PastIsForgotten           what a resting statement has depends on the rules in force alone
---     SameRulesAgree            two boards of n statements with the same rules in force give each statement that rests on both the same
+--     SameRules xs ys             xs and ys have the same rules, in whatever places and order, and however often; blank places do not count
+--     PastIsForgotten             what a resting statement has depends on the rules in force alone
+--     SameRulesAgree              two boards of n statements with the same rules in force give each statement that rests on both the same
 --                                 grade, whatever the marks of the rules, the number of places and the pasts
 use Rattle.std.specs.Prelude.{◌≡◌, ℕ, Bool, true, false, not, List, length, ◌≢◌}
 use Rattle.scales.specs.Meaning.{Meaning, Under, Same}

@@ -1,21 +1,21 @@
 -- What a refusal says of the tables and of the call, by its number. Assumes nothing.
---     InLimits t                 the lengths of both tables lie within their limits
+--     InLimits t                  the lengths of both tables lie within their limits
 --     Row m t c k                 the row k of the table of refusals holds of the call c on the tables t
---     RefusalsAreRows m degree t    a refused call on t leaves t, and the row of its number holds
---     RowsAreRefused m degree t     where a row holds the call is refused
---     ClearRow m t               a clear of t is refused exactly where t is not within its limits, with the number 1, and leaves t
+--     RefusalsAreRows m degree t  a refused call on t leaves t, and the row of its number holds
+--     RowsAreRefused m degree t   where a row holds the call is refused
+--     ClearRow m t                a clear of t is refused exactly where t is not within its limits, with the number 1, and leaves t
 --     Refuses m c t k             the call c on t is refused with the number k, whatever the survey says
 --     a_rule m h bs               a rule with the head h and the bodies bs
 --     three m                     the cleared board of three statements and one place
 --     with_rule m r               the same with the rule r in its place
---     OrderOfChecks m           which refusal comes where several rows hold, in worked cases
---     InOrder n bs               no body of bs is above n, and none comes after an absent one
---     GoodTables m t             t is within its limits, and no place that is not blank is malformed
+--     OrderOfChecks m             which refusal comes where several rows hold, in worked cases
+--     InOrder n bs                no body of bs is above n, and none comes after an absent one
+--     GoodTables m t              t is within its limits, and no place that is not blank is malformed
 --     Placeable m t k r           so, and the place k is there and blank, and the head of r is a statement
 --     Due m t c k                 the first check of the call c on t that is met has the number k: what each check before it found, and what it
 --                                 found itself; the bodies of a rule are looked at from the left
---     RefusalsAreDue m degree t     a refused call on t has the number that is due
---     DueIsRefused m t          what is due refuses the call, with that number
+--     RefusalsAreDue m degree t   a refused call on t has the number that is due
+--     DueIsRefused m t            what is due refuses the call, with that number
 use Rattle.std.specs.Prelude.{◌≡◌, ℕ, ◌<◌, ◌≤◌, false, List, [], ◌∷◌, ◌++◌, length, replicate, Some, None, ◌≢◌}
 use Rattle.scales.specs.Meaning.{Meaning}
 use Rattle.model.specs.Pins.{OneOf, AfterAbsent, Malformed}

@@ -5,7 +5,7 @@
 --     suppliers           the scale: join is union, meet and blend are intersection, level is the number of members, and the height 16
 --     supplier_coding     the digits are the code, so every number up to 65,535 is one
 --     tally, coded        how many of the suppliers below n pass a test, and the sum of 2 ^ k over them
---     SetsAre            what the scale says of its members
+--     SetsAre             what the scale says of its members
 use Rattle.std.specs.Prelude.{◌≡◌, ℕ, zero, suc, ◌+◌, ◌/◌, ◌%◌, ◌^◌, ◌<◌, min, Bool, true, cond, ◌&&◌, ◌||◌, Some, None, ◌==◌, bit_and, bit_or, count_ones, nat_le}
 use Rattle.scales.specs.Meaning.{Meaning, Under}
 use Rattle.scales.specs.Codes.{Coding}

@@ -1,5 +1,5 @@
 -- What the words of a survey mean. Assumes nothing.
---     Measured r          somebody has measured the reading r
+--     Measured r         somebody has measured the reading r
 --     EntryIs X          which entry of a table is a statement's: where s - 1 entries come before it, it is entry s
 --     RampIs             what a ramp gives each reading and each statement, and that it never rises
 --     JoinedIs m         the degree of two surveys together is the least grade that both of theirs are at or below

@@ -6,7 +6,7 @@
 --     Fits n p last xs            so are all of xs, in rising marks
 --     Decoded c xs                each weight of xs is what its code decodes to
 --     Alike m x y                 x and y are one rule: their weights hold one grade, and all else is the same
---     AllAlike m xs ys           xs and ys are the same rules
+--     AllAlike m xs ys            xs and ys are the same rules
 --     Four rules                  every rule of a table has four bodies
 --     adds xs                     the past of an accepted add of each of xs, newest first
 use Rattle.std.specs.Prelude.{◌≡◌, ℕ, suc, ◌-◌, ◌<◌, ◌≤◌, false, cond, List, [], ◌∷◌, ◌++◌, length, replicate, Some, ◌==◌, slice_set}

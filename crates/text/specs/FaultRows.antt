@@ -7,8 +7,8 @@
 --     Due text line               the line is that of a rule, by the rule count in the first line
 --     numbers, bodies             the columns at which the numbers of a rule's line begin, and those of its bodies
 --     FaultRow c n p text k layer line column    that row of the table of refusals holds of the text over n statements and p places
---     FaultsAreRows m c         a refused load leaves the tables, and the row of its fault holds
---     RowsAreRefused m c        where a row holds of the text the load is refused
+--     FaultsAreRows m c           a refused load leaves the tables, and the row of its fault holds
+--     RowsAreRefused m c          where a row holds of the text the load is refused
 use Rattle.std.specs.Prelude.{◌≡◌, ℕ, ◌+◌, ◌-◌, ◌*◌, ◌<◌, ◌≤◌, ◌⊎◌, List, [], ◌∷◌, length, take, drop, Err, Result, ◌≢◌, slice_index}
 use Rattle.scales.specs.Meaning.{Meaning}
 use Rattle.scales.specs.Codes.{Coding}

@@ -7,7 +7,7 @@
 --     Check                       a fault, and whether its case is met
 --     judged cs x                 x, or the fault of the first check that is met
 --     Unmet cs                    none of the checks is met
---     FirstMet cs q              the first check that is met has the report q
+--     FirstMet cs q               the first check that is met has the report q
 --     field_risen r, line_risen r     a result whose fault has risen to the board
 use Rattle.std.specs.Prelude.{◌≡◌, ℕ, Bool, true, false, cond, List, [], ◌∷◌, Ok, Err, Result}
 use Rattle.pasts.specs.declared.refusal.Refusal.{Refusal}

@@ -1,11 +1,11 @@
 -- What loads and writes have to do with each other, and with a board's past. Assumes nothing.
 --     NumbersAreOne                 a number below 100000 reads back from its five columns, and they are the only ones that read so
---     SampleLine                     R    1    1A   90    2    0    0    0 is the line of rule 1 of the sample board
---     LoadHasOneOutcome m c        a load of a text into tables has one answer, and leaves one board
---     OneSpelling m c                two texts that load to the same rules over as many statements are the same text
+--     SampleLine                    R    1    1A   90    2    0    0    0 is the line of rule 1 of the sample board
+--     LoadHasOneOutcome m c         a load of a text into tables has one answer, and leaves one board
+--     OneSpelling m c               two texts that load to the same rules over as many statements are the same text
 --     LoadAfterWrite m c            a load of what a write wrote is accepted and gives the rules back, as grades
 --     WriteAfterLoad m c            a write of what a load read, into a buffer that is long enough, gives the text back
---     LoadedPast m c degree          what a load leaves is what accepted adds of the rules, in rising marks, leave of a cleared board;
+--     LoadedPast m c degree         what a load leaves is what accepted adds of the rules, in rising marks, leave of a cleared board;
 --                                     so all that is promised after a past holds of it
 use Rattle.std.specs.Prelude.{◌≡◌, ℕ, ◌<◌, ◌≤◌, List, [], ◌∷◌, ◌++◌, length, take, Some, Ok, codes, Result}
 use Rattle.scales.specs.Meaning.{Meaning}

@@ -2,8 +2,8 @@
 --     row s                               the line s with its line feed
 --     Faulty n p text k layer line column     a load of the text into n statements and p places is refused with the number k, and with that
 --                                         layer, line and column
---     WorkedFaults                       a text for each of some faults
---     OrderOfFaults                     which fault comes where a text has several
+--     WorkedFaults                        a text for each of some faults
+--     OrderOfFaults                       which fault comes where a text has several
 use Rattle.std.specs.Prelude.{◌≡◌, ℕ, List, [], ◌∷◌, ◌++◌, length, Err, codes, Result}
 use Prim.Native.String.{String}
 use Rattle.scales.specs.Percents.{percents, percent_coding}
