@@ -43,8 +43,8 @@ unfolding implies
 gives true q h e = h
 gives false q h e = cc
 
-both : (p q r : Bool) → implies p (implies q r) ≡ true → p ≡ true → q ≡ true → r ≡ true
-both p q r h e f = gives q r (gives p (implies q r) h e) f
+after_both : (p q r : Bool) → implies p (implies q r) ≡ true → p ≡ true → q ≡ true → r ≡ true
+after_both p q r h e f = gives q r (gives p (implies q r) h e) f
 
 -- verdicts that have one code are one
 one_code : (a b : Verdict) → nat_le (code a) (code b) && nat_le (code b) (code a) ≡ true → a ≡ b
@@ -59,17 +59,17 @@ unfolding each implies
 verdict_laws = record {
   stands_same = λ a. refl;
   reflexive = λ a b e. cc (one (λ x. below x x) refl a);
-  antisymmetric = λ a b p q. one_code a b (both _ _ _ (two (λ x y. implies (below x y) (implies (below y x) (nat_le (code x) (code y) && nat_le (code y) (code x)))) refl a b) p q);
-  transitive = λ a b c p q. both _ _ _ (three (λ x y z. implies (below x y) (implies (below y z) (below x z))) refl a b c) p q;
+  antisymmetric = λ a b p q. one_code a b (after_both _ _ _ (two (λ x y. implies (below x y) (implies (below y x) (nat_le (code x) (code y) && nat_le (code y) (code x)))) refl a b) p q);
+  transitive = λ a b c p q. after_both _ _ _ (three (λ x y z. implies (below x y) (implies (below y z) (below x z))) refl a b c) p q;
   from_lowest = one (λ x. below False x) refl;
   to_highest = one (λ x. below x True) refl;
   join_left = two (λ x y. below x (join x y)) refl;
   join_right = two (λ x y. below y (join x y)) refl;
-  join_least = λ a b c p q. both _ _ _ (three (λ x y z. implies (below x z) (implies (below y z) (below (join x y) z))) refl a b c) p q;
+  join_least = λ a b c p q. after_both _ _ _ (three (λ x y z. implies (below x z) (implies (below y z) (below (join x y) z))) refl a b c) p q;
   meet_left = two (λ x y. below (meet x y) x) refl;
   meet_right = two (λ x y. below (meet x y) y) refl;
-  meet_greatest = λ a b c p q. both _ _ _ (three (λ x y z. implies (below z x) (implies (below z y) (below z (meet x y)))) refl a b c) p q;
-  blend_rises = λ a b c d p q. both _ _ _ (four (λ w x y z. implies (below w y) (implies (below x z) (below (meet w x) (meet y z)))) refl a b c d) p q;
+  meet_greatest = λ a b c p q. after_both _ _ _ (three (λ x y z. implies (below z x) (implies (below z y) (below z (meet x y)))) refl a b c) p q;
+  blend_rises = λ a b c d p q. after_both _ _ _ (four (λ w x y z. implies (below w y) (implies (below x z) (below (meet w x) (meet y z)))) refl a b c d) p q;
   blend_highest = λ b. refl;
   level_same = λ a b e. cc;
   level_rises = λ a b e. ltb-true (level a) (level b) (gives _ _ (two (λ x y. implies (above verdicts y x) (nat_lt (level x) (level y))) refl a b) e);
@@ -81,21 +81,21 @@ code_bound : (g : Verdict) → code g ≤ 3
 unfolding each
 code_bound g = leb-true (code g) 3 (one (λ x. nat_le (code x) 3) refl g)
 
-decodes : (g : Verdict) → (h : Verdict) × (decode (code g) ≡ Some h) × Same verdicts h g
-decodes False = (False, refl, refl)
-decodes Unknown = (Unknown, refl, refl)
-decodes Inconsistent = (Inconsistent, refl, refl)
-decodes True = (True, refl, refl)
+verdict_decodes : (g : Verdict) → (h : Verdict) × (decode (code g) ≡ Some h) × Same verdicts h g
+verdict_decodes False = (False, refl, refl)
+verdict_decodes Unknown = (Unknown, refl, refl)
+verdict_decodes Inconsistent = (Inconsistent, refl, refl)
+verdict_decodes True = (True, refl, refl)
 
-encodes : (n : ℕ) (g : Verdict) → decode n ≡ Some g → code g ≡ n
-encodes zero g e = let s : g ≡ False = cc in ap code s
-encodes (suc zero) g e = let s : g ≡ Unknown = cc in ap code s
-encodes (suc (suc zero)) g e = let s : g ≡ Inconsistent = cc in ap code s
-encodes (suc (suc (suc zero))) g e = let s : g ≡ True = cc in ap code s
-encodes (suc (suc (suc (suc n)))) g e = cc
+verdict_encodes : (n : ℕ) (g : Verdict) → decode n ≡ Some g → code g ≡ n
+verdict_encodes zero g e = let s : g ≡ False = cc in ap code s
+verdict_encodes (suc zero) g e = let s : g ≡ Unknown = cc in ap code s
+verdict_encodes (suc (suc zero)) g e = let s : g ≡ Inconsistent = cc in ap code s
+verdict_encodes (suc (suc (suc zero))) g e = let s : g ≡ True = cc in ap code s
+verdict_encodes (suc (suc (suc (suc n)))) g e = cc
 
 verdict_codes : (most : ℕ) → 3 ≤ most → Codes verdicts verdict_coding most
-verdict_codes most h = whole (λ a b e. ap code e) (λ g. omega (arith, code_bound g)) decodes encodes
+verdict_codes most h = whole (λ a b e. ap code e) (λ g. omega (arith, code_bound g)) verdict_decodes verdict_encodes
 
 pub verdict_short_codes : Codes verdicts verdict_coding 255
 verdict_short_codes = verdict_codes 255 (lit≤ tt)

@@ -15,7 +15,7 @@ use Rattle.pasts.proofs.Checked.{none_met}
 use Rattle.text.specs.Boards.{board, placed, AllAlike}
 use Rattle.text.specs.Faults.{Check, check, at_no_place, judged, Unmet}
 use Rattle.text.specs.Lines.{cut, after}
-use Rattle.text.specs.Loads.{Loads}
+use Rattle.text.specs.Loads.{Loads, Decodes}
 use Rattle.text.specs.Rows.{rule_count, rules_in, rules_of, header_checks, rows_checks, text_checks}
 use Rattle.text.specs.declared.faults.Fault.{Fault}
 use Rattle.text.proofs.Judged as judging
@@ -25,6 +25,11 @@ use Rattle.text.proofs.TextsSpelled.{text_fits, text_decoded, text_spelled, rows
 
 ok_err : {X E : Type 0} (x : X) (e : E) → ◌≡◌ {A = Result X E} (Ok x) (Err e) → ⊥
 ok_err x e p = let z : ◌≡◌ {A = ℕ} 0 1 = cc in omega arith
+
+-- what a load ensures
+pub record Load {G : Type 0} (m : Meaning G) (k : Coding G) (text : List ℕ) (t : Tables G) (r : Result ℕ Fault) (u : Tables G) : Type 0 where
+  pub loads : Loads m k text t r u
+  pub decoded : Decodes m k text t r u
 
 module _ {G : Type 0} {m : Meaning G} {k : Coding G} (codes : Codes m k 65535) (text : List ℕ) (t : Tables G) where
   abbrev n : ℕ
@@ -36,33 +41,39 @@ module _ {G : Type 0} {m : Meaning G} {k : Coding G} (codes : Codes m k 65535) (
   abbrev checks : List Check
   checks = text_checks k n p text
 
-  pub refusing : (f : Fault) → Err f ≡ judged checks (rule_count text) → Loads m k text t (Err f) t
+  pub refusing : (f : Fault) → Err f ≡ judged checks (rule_count text) → Load m k text t (Err f) t
   refusing f e = record {
-    answer = e;
-    refused = λ g q. (refl, judging.first_met checks (rule_count text) g (sym q ∙ e));
-    taken = λ j q. absurd (ok_err j f (sym q));
-    decoded = λ j q. absurd (ok_err j f (sym q));
-    takes = λ xs on many fits spells.
-        let u : Unmet checks = subst (λ (s : List ℕ). Unmet (text_checks k n p s)) (sym spells) (text_good codes n p on.1 many.1 xs fits on.0 many.0) in
-        absurd (ok_err (rule_count text) f (sym (judging.passes checks (rule_count text) u) ∙ sym e));
+    loads = record {
+      answer = e;
+      refused = λ g q. (refl, judging.first_met checks (rule_count text) g (sym q ∙ e));
+      taken = λ j q. absurd (ok_err j f (sym q));
+      takes = λ xs on many fits spells.
+          let u : Unmet checks = subst (λ (s : List ℕ). Unmet (text_checks k n p s)) (sym spells) (text_good codes n p on.1 many.1 xs fits on.0 many.0) in
+          absurd (ok_err (rule_count text) f (sym (judging.passes checks (rule_count text) u) ∙ sym e));
+    };
+    decoded = record { decoded = λ j q. absurd (ok_err j f (sym q)) };
   }
 
-  pub loading : Unmet checks → Loads m k text t (Ok (rule_count text)) (board m n p (rules_of m k text))
+  pub loading : Unmet checks → Load m k text t (Ok (rule_count text)) (board m n p (rules_of m k text))
   loading u =
       let fits = text_fits codes n p text u in
       record {
-        answer = sym (judging.passes checks (rule_count text) u);
-        refused = λ f q. absurd (ok_err (rule_count text) f q);
-        taken = λ j q.
-            let same : rule_count text ≡ j = cc in
-            (rules_of m k text, rows_length codes n p (rule_count text) (drop 12 text) ∙ same, fits, text_spelled codes n p text u, refl);
-        decoded = λ j q.
-            let same : rule_count text ≡ j = cc in
-            (rules_of m k text, rows_length codes n p (rule_count text) (drop 12 text) ∙ same, fits, text_decoded codes n p text u, text_spelled codes n p text u, refl);
-        takes = λ xs on many g spells. (
-          ap Ok (ap rule_count spells ∙ count_back codes n p on.1 many.1 xs g),
-          subst (λ ys. AllAlike m ys xs) (sym (board_held m n p (rules_of m k text) fits ∙ ap (rules_of m k) spells)) (text_back codes n p on.1 many.1 xs g),
-        );
+        loads = record {
+          answer = sym (judging.passes checks (rule_count text) u);
+          refused = λ f q. absurd (ok_err (rule_count text) f q);
+          taken = λ j q.
+              let same : rule_count text ≡ j = cc in
+              (rules_of m k text, rows_length codes n p (rule_count text) (drop 12 text) ∙ same, fits, text_spelled codes n p text u, refl);
+          takes = λ xs on many g spells. (
+            ap Ok (ap rule_count spells ∙ count_back codes n p on.1 many.1 xs g),
+            subst (λ ys. AllAlike m ys xs) (sym (board_held m n p (rules_of m k text) fits ∙ ap (rules_of m k) spells)) (text_back codes n p on.1 many.1 xs g),
+          );
+        };
+        decoded = record {
+          decoded = λ j q.
+              let same : rule_count text ≡ j = cc in
+              (rules_of m k text, rows_length codes n p (rule_count text) (drop 12 text) ∙ same, fits, text_decoded codes n p text u, text_spelled codes n p text u, refl);
+        };
       }
 
   -- the lengths of the tables
@@ -73,7 +84,7 @@ module _ {G : Type 0} {m : Meaning G} {k : Coding G} (codes : Codes m k 65535) (
   by_length true q r e = let same : q ≡ TableLength = cc in ap (λ x. Err (at_no_place x)) same
   by_length false q r e = let z : ◌≡◌ {A = ℕ} 0 1 = cc in absurd (omega arith)
 
-  pub in_lengths : (q : Refusal) → Some q ≡ first (length_checks t) → Loads m k text t (Err (at_no_place q)) t
+  pub in_lengths : (q : Refusal) → Some q ≡ first (length_checks t) → Load m k text t (Err (at_no_place q)) t
   in_lengths q e = refusing (at_no_place q) (by_length (outside 1024 n || outside 4096 p) q _ e)
 
   module _ (fine : None ≡ first (length_checks t)) where
@@ -84,7 +95,7 @@ module _ {G : Type 0} {m : Meaning G} {k : Coding G} (codes : Codes m k 65535) (
     past_lengths r e = e ∙ sym (judging.past lengths (header_checks n p text ++ rows_checks k n p 0 2 (rule_count text) (drop 12 text)) (rule_count text) lengths_good)
 
     module _ (start : List ℕ) (whole : start ≡ text) where
-      pub in_header : (f : Fault) → Err f ≡ judged (header_checks n p start) (rule_count start) → Loads m k text t (Err f) t
+      pub in_header : (f : Fault) → Err f ≡ judged (header_checks n p start) (rule_count start) → Load m k text t (Err f) t
       in_header f e =
           refusing f (past_lengths (Err f) (judging.stops (header_checks n p text) (rows_checks k n p 0 2 (rule_count text) (drop 12 text)) (rule_count text) (rule_count text) f (e ∙ ap (λ (s : List ℕ). judged (header_checks n p s) (rule_count s)) whole)))
 
@@ -101,7 +112,7 @@ module _ {G : Type 0} {m : Meaning G} {k : Coding G} (codes : Codes m k 65535) (
         rows_are : rows_checks k n p 0 2 j next ≡ rows_checks k n p 0 2 (rule_count text) (drop 12 text)
         rows_are = ap (λ (i : ℕ). rows_checks k n p 0 2 i next) count_is ∙ ap (rows_checks k n p 0 2 (rule_count text)) next_is
 
-        pub in_rows : (f : Fault) → Err f ≡ judged (rows_checks k n p 0 2 j next) (tt {0}) → Loads m k text t (Err f) t
+        pub in_rows : (f : Fault) → Err f ≡ judged (rows_checks k n p 0 2 j next) (tt {0}) → Load m k text t (Err f) t
         in_rows f e =
             refusing f (past_lengths (Err f) (judging.stops (rows_checks k n p 0 2 (rule_count text) (drop 12 text)) [] (tt {0}) (rule_count text) f (e ∙ ap (λ cs. judged cs (tt {0})) rows_are)
             ∙ rest_alone))
@@ -115,12 +126,12 @@ module _ {G : Type 0} {m : Meaning G} {k : Coding G} (codes : Codes m k 65535) (
           pub rows_sound : Unmet (rows_checks k n p 0 2 j next)
           rows_sound = (judging.passed (rows_checks k n p 0 2 j next) (tt {0}) (tt {0}) sound).0
 
-          pub loaded : (xs : List (Statement G)) (rules : List (Rule G)) → xs ≡ replicate n (unopened m) → rules ≡ placed (replicate p (blank m)) (rules_in m k j next) → Loads m k text t (Ok j) (tables xs rules)
+          pub loaded : (xs : List (Statement G)) (rules : List (Rule G)) → xs ≡ replicate n (unopened m) → rules ≡ placed (replicate p (blank m)) (rules_in m k j next) → Load m k text t (Ok j) (tables xs rules)
           loaded xs rules ex er =
               let u : Unmet checks = (lengths_good.0, judging.unmet_both (header_checks n p text) (rows_checks k n p 0 2 (rule_count text) (drop 12 text)) header_good (subst Unmet rows_are rows_sound)) in
               let same : rules ≡ placed (replicate p (blank m)) (rules_of m k text) = er ∙ (ap (λ (i : ℕ). placed (replicate p (blank m)) (rules_in m k i next)) count_is ∙ ap (λ (s : List ℕ). placed (replicate p (blank m)) (rules_in m k (rule_count text) s)) next_is) in
-              subst (λ (i : ℕ). Loads m k text t (Ok i) (tables xs rules)) (sym count_is)
-              (subst (λ (w : Tables G). Loads m k text t (Ok (rule_count text)) w) (sym (ap (λ a. tables a rules) ex ∙ ap (tables (replicate n (unopened m))) same)) (loading u))
+              subst (λ (i : ℕ). Load m k text t (Ok i) (tables xs rules)) (sym count_is)
+              (subst (λ (w : Tables G). Load m k text t (Ok (rule_count text)) w) (sym (ap (λ a. tables a rules) ex ∙ ap (tables (replicate n (unopened m))) same)) (loading u))
 
 -- a clear of tables within their limits
 pub never_refused : {G : Type 0} {m : Meaning G} {t u : Tables G} {o : Option Refusal} → Clears m t o u → (q : Refusal) → o ≡ Some q → None ≡ first (length_checks t) → ⊥

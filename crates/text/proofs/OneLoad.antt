@@ -6,7 +6,7 @@ use Rattle.model.specs.declared.rule.Form.{Form}
 use Rattle.pasts.specs.Tables.{Tables, count}
 use Rattle.text.specs.Boards.{Alike, AllAlike, none, more, Decoded, board, numbered}
 use Rattle.text.specs.Faults.{Unmet}
-use Rattle.text.specs.Loads.{Loads}
+use Rattle.text.specs.Loads.{Loads, Decodes}
 use Rattle.text.specs.Promises.{LoadHasOneOutcome}
 use Rattle.text.specs.Rows.{rule_count, rules_of, text_checks}
 use Rattle.text.specs.declared.faults.Fault.{Fault}
@@ -38,7 +38,7 @@ module _ {G : Type 0} {m : Meaning G} {c : Coding G} (codes : Codes m c 65535) w
   all_equal (more {x} {y} {xs} {ys} a rest) dx dy =
       ap (λ z. z ∷ xs) (alike_equal x y a dx.0 dy.0) ∙ ap (λ zs. y ∷ zs) (all_equal rest dx.1 dy.1)
 
-  module _ (text : List ℕ) (t u : Tables G) (j : ℕ) (l : Loads m c text t (Ok j) u) where
+  module _ (text : List ℕ) (t u : Tables G) (j : ℕ) (l : Loads m c text t (Ok j) u) (d : Decodes m c text t (Ok j) u) where
     abbrev n : ℕ
     n = count t
 
@@ -51,18 +51,18 @@ module _ {G : Type 0} {m : Meaning G} {c : Coding G} (codes : Codes m c 65535) w
     -- the board holds the rules that the text says
     pub loaded_is : u ≡ board m n p (rules_of m c text)
     loaded_is =
-        let k = l.decoded j refl in
+        let k = d.decoded j refl in
         let w = text_within codes n p text sound in
         let alike = text_back codes n p w.0.1 w.1.1 k.0 k.2 in
         let same = all_equal (subst (λ (s : List ℕ). AllAlike m (rules_of m c s) k.0) (sym k.4) alike) (text_decoded codes n p text sound) k.3 in
         k.5 ∙ ap (board m n p) (sym same)
 
   module _ (text : List ℕ) (t u v : Tables G) where
-    alike_left : (r : Result ℕ Fault) → Loads m c text t r u → Loads m c text t r v → u ≡ v
-    alike_left (Ok j) a b = loaded_is text t u j a ∙ sym (loaded_is text t v j b)
-    alike_left (Err f) a b = (a.refused f refl).0 ∙ sym (b.refused f refl).0
+    alike_left : (r : Result ℕ Fault) → Loads m c text t r u → Decodes m c text t r u → Loads m c text t r v → Decodes m c text t r v → u ≡ v
+    alike_left (Ok j) a d b e = loaded_is text t u j a d ∙ sym (loaded_is text t v j b e)
+    alike_left (Err f) a d b e = (a.refused f refl).0 ∙ sym (b.refused f refl).0
 
   pub one_outcome : LoadHasOneOutcome m c
-  one_outcome text t u v r q a b =
+  one_outcome text t u v r q a d b e =
       let same : q ≡ r = b.answer ∙ sym a.answer in
-      (sym same, alike_left text t u v r a (subst (λ (s : Result ℕ Fault). Loads m c text t s v) same b))
+      (sym same, alike_left text t u v r a d (subst (λ (s : Result ℕ Fault). Loads m c text t s v) same b) (subst (λ (s : Result ℕ Fault). Decodes m c text t s v) same e))

@@ -1,5 +1,6 @@
 -- What load and write do. Assumes nothing.
 --     Loads m c text t r u            a load of the text into the tables t answers r and leaves u
+--     Decodes m c text t r u          where it is taken, each weight in u is what its code decodes to
 --     text_length t                   how long the text of the board t is
 --     write_checks t buffer           what a write checks, in order
 --     Writes c t buffer r out         a write of the board t into the buffer answers r and leaves out
@@ -26,10 +27,12 @@ module _ {G : Type 0} (m : Meaning G) (c : Coding G) where
     pub refused : (f : Fault) → r ≡ Err f → (u ≡ t) × FirstMet (text_checks c (count t) (length t.rules) text) (report f)
     -- a text that is taken spells rules that fit the tables, and these are on the board
     pub taken : (k : ℕ) → r ≡ Ok k → (xs : List (Numbered G)) × (length xs ≡ k) × Fits (count t) (length t.rules) 0 xs × (text ≡ spelling c (count t) xs) × (u ≡ board m (count t) (length t.rules) xs)
-    -- and does so with each weight as its code decodes
-    pub decoded : (k : ℕ) → r ≡ Ok k → (xs : List (Numbered G)) × (length xs ≡ k) × Fits (count t) (length t.rules) 0 xs × Decoded c xs × (text ≡ spelling c (count t) xs) × (u ≡ board m (count t) (length t.rules) xs)
     -- every such text is taken
     pub takes : (xs : List (Numbered G)) → On 1024 (count t) → On 4096 (length t.rules) → Fits (count t) (length t.rules) 0 xs → text ≡ spelling c (count t) xs → (r ≡ Ok (length xs)) × AllAlike m (held 1 u.rules) xs
+
+  -- a text that is taken is on the board with each weight as its code decodes
+  pub record Decodes (text : List ℕ) (t : Tables G) (r : Result ℕ Fault) (u : Tables G) : Type 0 where
+    pub decoded : (k : ℕ) → r ≡ Ok k → (xs : List (Numbered G)) × (length xs ≡ k) × Fits (count t) (length t.rules) 0 xs × Decoded c xs × (text ≡ spelling c (count t) xs) × (u ≡ board m (count t) (length t.rules) xs)
 
 abbrev pub or_length : Option Refusal → ℕ → Result ℕ Refusal
 or_length (Some q) k = Err q

@@ -18,7 +18,7 @@ use Rattle.pasts.specs.Tables.{Tables, count}
 use Rattle.pasts.specs.declared.refusal.Refusal.{Refusal}
 use Rattle.text.specs.Boards.{Four, numbered, held, AllAlike, adds}
 use Rattle.text.specs.Decimal.{parsed, written}
-use Rattle.text.specs.Loads.{Loads, Writes}
+use Rattle.text.specs.Loads.{Decodes, Loads, Writes}
 use Rattle.text.specs.Spelling.{row_bytes}
 use Rattle.text.specs.declared.faults.Fault.{Fault}
 
@@ -33,7 +33,7 @@ SampleLine =
 module _ {G : Type 0} (m : Meaning G) (c : Coding G) where
   abbrev pub LoadHasOneOutcome : Type 0
   LoadHasOneOutcome =
-      (text : List ℕ) (t u v : Tables G) (r q : Result ℕ Fault) → Loads m c text t r u → Loads m c text t q v → (r ≡ q) × (u ≡ v)
+      (text : List ℕ) (t u v : Tables G) (r q : Result ℕ Fault) → Loads m c text t r u → Decodes m c text t r u → Loads m c text t q v → Decodes m c text t q v → (r ≡ q) × (u ≡ v)
 
   abbrev pub OneSpelling : Type 0
   OneSpelling =

@@ -3,7 +3,7 @@ ghost use Rattle.std.specs.Prelude.{◌≡◌, ◌≤◌, length, drop};
 ghost use Rattle.pasts.specs.Tables.{tables};
 ghost use Rattle.text.specs.Boards.{placed};
 ghost use Rattle.text.specs.Faults.{judged, Unmet};
-ghost use Rattle.text.specs.Loads.{Loads};
+ghost use Rattle.text.specs.Loads.{Loads, Decodes};
 ghost use Rattle.text.specs.Rows.{rows_checks, rules_in};
 
 use crate::faults::{Fault, Place};
@@ -65,7 +65,8 @@ pub fn load<G: Written>(
     statements: &mut [Statement<G>],
     rules: &mut [Rule<G>],
 ) -> Result<u16, Fault>
-    ensures { Loads G.Scale.meaning G.coding text.now (tables statements.old rules.old) result (tables statements.new rules.new) }
+    ensures loads { Loads G.Scale.meaning G.coding text.now (tables statements.old rules.old) result (tables statements.new rules.new) }
+    ensures decoded { Decodes G.Scale.meaning G.coding text.now (tables statements.old rules.old) result (tables statements.new rules.new) }
 {
     check_lengths(statements, rules)?;
     let total = statements.len() as u16;

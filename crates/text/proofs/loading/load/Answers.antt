@@ -12,19 +12,22 @@ pub returns-in_err-check_lengths : goal.returns-in_err-check_lengths
 returns-in_err-check_lengths g c =
     let p = err_from_is_err_and c.from_residual.result c.from_residual.ensures.1 in
     let t = tables c.args.statements.now c.args.rules.now in
-    rw (p.1, p.2) (in_lengths g.met.G.Written.codes c.args.text.now t _ c.in_err-check_lengths.ensures)
+    let load = in_lengths g.met.G.Written.codes c.args.text.now t _ c.in_err-check_lengths.ensures in
+    record { loads = rw (p.1, p.2) load.loads; decoded = rw (p.1, p.2) load.decoded }
 
 pub returns-in_err-count : goal.returns-in_err-count
 returns-in_err-count g c =
     let p = err_from_is_err_and c.from_residual-in_err-count.result c.from_residual-in_err-count.ensures.1 in
     let t = tables c.args.statements.now c.args.rules.now in
-    rw (p.1, p.2) (in_header g.met.G.Written.codes c.args.text.now t c.in_ok-check_lengths.ensures _ c.new-reader.ensures _ c.in_err-count.ensures.read)
+    let load = in_header g.met.G.Written.codes c.args.text.now t c.in_ok-check_lengths.ensures _ c.new-reader.ensures _ c.in_err-count.ensures.read in
+    record { loads = rw (p.1, p.2) load.loads; decoded = rw (p.1, p.2) load.decoded }
 
 pub returns-in_err-check_rules : goal.returns-in_err-check_rules
 returns-in_err-check_rules g c =
     let p = err_from_is_err_and c.from_residual-in_err-check_rules.result c.from_residual-in_err-check_rules.ensures.1 in
     let t = tables c.args.statements.now c.args.rules.now in
-    rw (p.1, p.2) (in_rows g.met.G.Written.codes c.args.text.now t c.in_ok-check_lengths.ensures _ c.new-reader.ensures c.in_ok-count.count c.in_ok-count.ensures.read _ c.in_ok-count.ensures.rest _ c.in_err-check_rules.ensures)
+    let load = in_rows g.met.G.Written.codes c.args.text.now t c.in_ok-check_lengths.ensures _ c.new-reader.ensures c.in_ok-count.count c.in_ok-count.ensures.read _ c.in_ok-count.ensures.rest _ c.in_err-check_rules.ensures in
+    record { loads = rw (p.1, p.2) load.loads; decoded = rw (p.1, p.2) load.decoded }
 
 pub returns-in_err-clear : goal.returns-in_err-clear
 returns-in_err-clear g c = absurd (never_refused c.in_err-clear.ensures _ refl c.in_ok-check_lengths.ensures)
@@ -48,5 +51,6 @@ returns g c =
     let t = tables c.args.statements.now c.args.rules.now in
     let next = drop c.next_header.new.reader.at c.next_header.new.reader.text.now in
     let empty = is_cleared c.in_ok-clear.ensures refl in
-    loaded g.met.G.Written.codes c.args.text.now t c.in_ok-check_lengths.ensures _ c.new-reader.ensures c.in_ok-count.count c.in_ok-count.ensures.read next c.in_ok-count.ensures.rest c.in_ok-check_rules.ensures
-    _ _ (ap (λ (w : Tables g.row.G.Denot). w.statements) empty) (c.fill_rules.ensures ∙ ap (λ (w : Tables g.row.G.Denot). placed w.rules (rules_in m k c.in_ok-count.count next)) empty)
+    let load = loaded g.met.G.Written.codes c.args.text.now t c.in_ok-check_lengths.ensures _ c.new-reader.ensures c.in_ok-count.count c.in_ok-count.ensures.read next c.in_ok-count.ensures.rest c.in_ok-check_rules.ensures
+    _ _ (ap (λ (w : Tables g.row.G.Denot). w.statements) empty) (c.fill_rules.ensures ∙ ap (λ (w : Tables g.row.G.Denot). placed w.rules (rules_in m k c.in_ok-count.count next)) empty) in
+    record { loads = load.loads; decoded = load.decoded }
