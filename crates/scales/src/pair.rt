@@ -17,6 +17,7 @@ pub struct Pair<A, B> {
 // How far a statement is believed, and how far it is doubted: less doubt is a higher grade.
 pub type Belief = Pair<Percent, Turned<Percent>>;
 
+// Join, meet and blend are two calls side by side each: a function that takes the two operations needs a contract longer than the three.
 impl<A: Short, B: Short> Scale for Pair<A, B> {
     ghost meaning = { pairs A.Scale.meaning B.Scale.meaning };
 
