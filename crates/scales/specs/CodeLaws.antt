@@ -2,7 +2,7 @@
 --     whole               where every grade's code decodes to that grade, no grade has a code that decodes to none
 --     some_up_to, up_to   where the numbers up to a limit are codes: one of them decodes, and what decodes is one of them
 use Rattle.std.specs.Prelude.{◌≡◌, ℕ, ◌≤◌, true, false, cond, leb, Some, None, nat_le}
-use Rattle.std.proofs.Common.{sym, ap, ◌∙◌, ⊎_elim, arith}
+use Rattle.std.proofs.Common.{sym, ap, ◌∙◌, ⊎_elim}
 use Rattle.std.proofs.lemmas.Bool.{leb-true, le-leb, cases_Bool, cond-true, cond-false}
 use Rattle.scales.specs.Meaning.{Meaning, Same}
 use Rattle.scales.specs.Codes.{Coding, Codes}
@@ -19,9 +19,7 @@ module _ {G : Type 0} {m : Meaning G} {c : Coding G} {most : ℕ} where
     where
       none : (n : ℕ) (g : G) → c.decode n ≡ None → c.code g ≡ n → (h : G) × (c.decode (c.code g) ≡ Some h) × Same m h g → ⊥
       none n g e f d =
-          let some : Some d.0 ≡ None = sym d.1 ∙ ap c.decode f ∙ e in
-          let no : ◌≡◌ {A = ℕ} 0 1 = cc in
-          omega arith
+          let some : Some d.0 ≡ None = sym d.1 ∙ ap c.decode f ∙ e in cc
 
 module _ {G : Type 0} (most : ℕ) (of : ℕ → G) where
   pub some_up_to : (n : ℕ) → n ≤ most → cond (nat_le n most) (Some (of n)) None ≡ Some (of n)
@@ -35,6 +33,4 @@ module _ {G : Type 0} (most : ℕ) (of : ℕ → G) where
 
       none : leb n most ≡ false → (n ≤ most) × (of n ≡ g)
       none t =
-          let some : None ≡ Some g = sym (cond-false (nat_le n most) _ _ t) ∙ e in
-          let no : ◌≡◌ {A = ℕ} 0 1 = cc in
-          absurd (omega arith)
+          let some : None ≡ Some g = sym (cond-false (nat_le n most) _ _ t) ∙ e in cc

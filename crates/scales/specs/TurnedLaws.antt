@@ -50,8 +50,7 @@ module _ {G : Type 0} {m : Meaning G} (laws : Laws m) where
 
 -- what decodes on the turned scale decodes below
 below : {G : Type 0} (o : Option G) (a : Turned G) → option_map over o ≡ Some a → o ≡ Some a.grade
-below None a e =
-    let no : ◌≡◌ {A = ℕ} 0 1 = cc in absurd (omega arith)
+below None a e = cc
 below (Some g) a e =
     let is : over g ≡ a = cc in ap (λ x. Some x.grade) is
 
