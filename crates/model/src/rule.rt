@@ -39,8 +39,8 @@ impl Form {
     }
 }
 
-// A rule for the statement `head`, or a blank place if `head` is 0; a body that is 0 is absent. Tables of such records are lent by callers, so
-// their numbers say what an `Option` would. The mark of a rule is the number of its place in the table, and no part of the rule.
+// A rule for the statement `head`, or a blank place if `head` is 0; a body that is 0 is absent. Tables of such records are lent by callers,
+// so their numbers say what an `Option` would. The mark of a rule is the number of its place in the table, and no part of the rule.
 #[derive(Clone, Copy, Debug)]
 pub struct Rule<G> {
     pub head: u16,
