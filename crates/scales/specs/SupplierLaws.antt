@@ -11,7 +11,7 @@ use Rattle.std.specs.Int.{bit_at}
 use Rattle.std.specs.Int.Bits.{bit_and, bit_or}
 use Rattle.std.specs.Int.Count.{ones}
 use Rattle.std.proofs.lemmas.Nat.{mod-pow-add, mod_below, pow_pos, and_le_l, and_comm, and_mask, or_lt, ones-le, ones_cat}
-use Rattle.std.proofs.lemmas.Nat.Bits.{bit_at_and, bit_at_or, bit_at-lt}
+use Rattle.std.proofs.lemmas.Nat.Bits.{bit_at_and, bit_at_or, bit_at-lt, bit_at-zero, bit_at_ones}
 use Rattle.std.proofs.lemmas.Bool.{eqb-true, eq-eqb, and_parts, not-true, both_ways}
 use Rattle.scales.specs.Meaning.{Under, Same, above}
 use Rattle.scales.specs.Laws.{Laws}
@@ -141,12 +141,19 @@ summed a zero = omega arith
 summed a (suc k) =
     omega (arith, one_more (bits a) k, summed a k, one_digit (bit_at (bits a) k) (2 ^ k) (bit_at-lt (bits a) k))
 
+shared : (a b : Suppliers) (k : ℕ) → has (suppliers.meet a b) k ≡ (has a k && has b k)
+shared a b k =
+    ap (λ d. nat_eq d 1) (shared_bit a b k) ∙ and_digits (bit_at (bits a) k) (bit_at (bits b) k) (bit_at-lt (bits a) k) (bit_at-lt (bits b) k)
+
 pub sets_are : SetsAre
 sets_are = record {
   within = λ a b e k h. eq-eqb (bit_at (bits b) k) 1 (omega (arith, within_and (suc k) (bits a) (bits b) (eqb-true _ _ e) k (omega arith), eqb-true (bit_at (bits a) k) 1 h, bit_at-lt (bits b) k));
   from_members = λ a b w. tested a b (λ k h. member (bit_at (bits a) k) (bit_at (bits b) k) (bit_at-lt (bits a) k) (w k h));
   union = λ a b k. ap (λ d. nat_eq d 1) (union_bit a b k) ∙ or_digits (bit_at (bits a) k) (bit_at (bits b) k) (bit_at-lt (bits a) k) (bit_at-lt (bits b) k);
-  intersection = λ a b k. ap (λ d. nat_eq d 1) (shared_bit a b k) ∙ and_digits (bit_at (bits a) k) (bit_at (bits b) k) (bit_at-lt (bits a) k) (bit_at-lt (bits b) k);
+  intersection = shared;
+  blended = shared;
+  none = λ k. ap (λ d. nat_eq d 1) (bit_at-zero k);
+  all = λ k h. ap (λ d. nat_eq d 1) (bit_at_ones 16 k h);
   members = λ a. ap ones (sym (mod-eq_of_lt (small a))) ∙ counted a 16;
   code = λ a. sym (mod-eq_of_lt (small a)) ∙ summed a 16;
 }

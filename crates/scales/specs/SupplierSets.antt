@@ -6,7 +6,7 @@
 --     supplier_coding     the digits are the code, so every number up to 65,535 is one
 --     tally, coded        how many of the suppliers below n pass a test, and the sum of 2 ^ k over them
 --     SetsAre             what the scale says of its members
-use Rattle.std.specs.Prelude.{◌≡◌, ℕ, zero, suc, ◌+◌, ◌^◌, ◌<◌, min, Bool, true, cond, ◌&&◌, ◌||◌, Some, None, ◌==◌, bit_and, bit_or, count_ones, nat_le}
+use Rattle.std.specs.Prelude.{◌≡◌, ℕ, zero, suc, ◌+◌, ◌^◌, ◌<◌, min, Bool, true, false, cond, ◌&&◌, ◌||◌, Some, None, ◌==◌, bit_and, bit_or, count_ones, nat_le}
 use Rattle.std.specs.Int.{bit_at}
 use Rattle.scales.specs.Meaning.{Meaning, Under}
 use Rattle.scales.specs.Codes.{Coding}
@@ -50,5 +50,8 @@ pub record SetsAre : Type 0 where
   pub from_members : (a b : Suppliers) → ((k : ℕ) → k < 16 → has a k ≡ true → has b k ≡ true) → Under suppliers a b
   pub union : (a b : Suppliers) (k : ℕ) → has (suppliers.join a b) k ≡ (has a k || has b k)
   pub intersection : (a b : Suppliers) (k : ℕ) → has (suppliers.meet a b) k ≡ (has a k && has b k)
+  pub blended : (a b : Suppliers) (k : ℕ) → has (suppliers.blend a b) k ≡ (has a k && has b k)
+  pub none : (k : ℕ) → has suppliers.lowest k ≡ false
+  pub all : (k : ℕ) → k < 16 → has suppliers.highest k ≡ true
   pub members : (a : Suppliers) → suppliers.level a ≡ tally (has a) 16
   pub code : (a : Suppliers) → supplier_coding.code a ≡ coded (has a) 16

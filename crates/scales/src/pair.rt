@@ -96,7 +96,8 @@ impl<A: Short, B: Short> Written for Pair<A, B> {
 
 // A belief is at or below one that is believed as much or more, and doubted as much or less.
 pub fn less_doubt_is_higher(a: Belief, b: Belief) -> bool
-    ensures { result ≡ (nat_le (points a.first) (points b.first) && nat_le (points b.second.grade) (points a.second.grade)) }
+    ensures order { result ≡ ⟦<Belief as Scale>⟧.meaning.below a b }
+    ensures parts { result ≡ (nat_le (points a.first) (points b.first) && nat_le (points b.second.grade) (points a.second.grade)) }
 {
     a.at_or_below(b)
 }

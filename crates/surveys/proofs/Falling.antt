@@ -3,8 +3,9 @@
 --     near_is, far_is     up to the near shoulder; beyond it, from the far shoulder on
 --     slope               the quotient in between, and that it is at most 100
 --     ramp_is             all that a ramp is
-use Rattle.std.proofs.Common.{◌≡◌, ℕ, ◌+◌, ◌-◌, ◌*◌, ◌/◌, ◌<◌, ◌≤◌, min, cond, eqb, leb, ◌⊎◌, List, length, vec_items, sym, refl, ap, ◌∙◌, subst, inl, inr, add-mul, le-div_iff_mul-le, div-mul-le_self, arith}
+use Rattle.std.proofs.Common.{◌≡◌, ℕ, ◌+◌, ◌-◌, ◌*◌, ◌/◌, ◌<◌, ◌≤◌, min, cond, eqb, leb, ◌⊎◌, List, ◌∷◌, ◌++◌, length, slice_index_or, vec_items, sym, refl, ap, ◌∙◌, subst, inl, inr, add-mul, le-div_iff_mul-le, div-mul-le_self, arith}
 use native.Mathlib.Nat.{div-le_of_le-mul, lt-div-mul-add}
+use Rattle.std.proofs.Math.Seq.{get_or-append_seam}
 use Rattle.std.proofs.lemmas.List.{get_or_past}
 use Rattle.std.proofs.lemmas.Bool.{cond-true, cond-false, eq-eqb, ne_eqb, le-leb, lt-leb, cases_eq, cases_lt}
 use Rattle.scales.specs.Meaning.{Under}
@@ -83,6 +84,13 @@ falls_is a b r s m le (inr n) =
 entry_beyond : {X : Type 0} (none : X) (xs : List X) (s : ℕ) → length xs < s → entry none xs s ≡ none
 entry_beyond none xs s h = cond-false _ _ _ (ne_eqb s 0 (omega arith)) ∙ get_or_past xs (s - 1) none (omega arith)
 
+entry_there : {X : Type 0} (none x : X) (before after : List X) → entry none (before ++ x ∷ after) (length before + 1) ≡ x
+entry_there none x before after =
+    cond-false _ _ _ (ne_eqb (length before + 1) 0 (omega arith)) ∙ (ap (λ i. slice_index_or (before ++ x ∷ after) i none) one_less ∙ get_or-append_seam before x after none)
+  where
+    one_less : length before + 1 - 1 ≡ length before
+    one_less = omega arith
+
 pub ramp_is : RampIs
 ramp_is = record {
   near = λ a b r m h. measured a b r m ∙ ap percent (near_is a b r h);
@@ -90,6 +98,7 @@ ramp_is = record {
   between = between_is;
   falls = λ a b r s m le. falls_is a b r s m le (cases_eq s unmeasured);
   unmeasured_line = unmeasured_is;
+  there = λ t r before after e. ap (graded t.near t.far) (ap (λ xs. entry unmeasured xs (length before + 1)) e ∙ entry_there unmeasured r before after);
   no_statement = λ t. unmeasured_is t.near t.far;
   beyond = λ t s h. ap (graded t.near t.far) (entry_beyond unmeasured (vec_items t.readings) s h) ∙ unmeasured_is t.near t.far;
 }
