@@ -34,10 +34,7 @@ fn settled<G: Scale>(statements: &[Statement<G>]) -> bool
     requires { length statements.now ≤ 1024 }
     ensures { result ≡ not (some_active statements.now) }
 {
-    match next_active(statements) {
-        Some(_) => false,
-        None => true,
-    }
+    next_active(statements).is_none()
 }
 
 // Answers the grade of the open statement `s`, and whether no statement is active.

@@ -25,12 +25,8 @@ pub(crate) fn next_active<G: Scale>(statements: &[Statement<G>]) -> Option<u16>
     requires { length statements.now ≤ 1024 }
     ensures { Picks G.meaning statements.now result }
 {
-    for (i, x) in statements.iter().enumerate() {
-        if x.mark.is_active() {
-            return Some(i as u16 + 1);
-        }
-    }
-    None
+    let i = statements.iter().position(|x| x.mark.is_active())?;
+    Some(i as u16 + 1)
 }
 
 // The statement `s`, if there is one, is taken, with this grade.
@@ -75,11 +71,7 @@ pub fn step<V: Survey>(
     ensures { Outcome V.Grade.Scale.meaning (V.degrees survey.now) Step (tables statements.old rules.now) (stepped result) (tables statements.new rules.now) }
 {
     check_tables(statements, rules)?;
-    match next_active(statements) {
-        None => Err(Refusal::NothingActive),
-        Some(s) => {
-            let rose = advance(survey, statements, rules, s);
-            Ok((s, rose))
-        }
-    }
+    let s = next_active(statements).ok_or(Refusal::NothingActive)?;
+    let rose = advance(survey, statements, rules, s);
+    Ok((s, rose))
 }
