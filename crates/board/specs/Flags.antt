@@ -11,7 +11,8 @@
 --     lowest_told m x             the statement x at the lowest grade, and told as if a son had risen
 --     fallen m b x                that, if x is open and b says that it leads to the head; else x
 --     Falls m rules h xs ys       from xs to ys exactly the open statements that lead to h fall
-use Rattle.std.specs.Prelude.{◌≡◌, ℕ, ◌+◌, ◌-◌, ◌<◌, ◌≤◌, Bool, true, false, cond, not, ◌&&◌, ◌||◌, ◌⊎◌, List, [], ◌∷◌, length, Some, None, count_by, Option, ◌==◌, slice_index, slice_index_or}
+use Rattle.std.specs.Prelude.{◌≡◌, ℕ, ◌+◌, ◌-◌, ◌<◌, ◌≤◌, Bool, true, false, cond, not, ◌&&◌, ◌⊎◌, List, [], ◌∷◌, length, Some, None, count_by, Option, ◌==◌, slice_index, slice_index_or}
+use Rattle.std.specs.List.{list_any}
 use Rattle.scales.specs.Meaning.{Meaning}
 use Rattle.model.specs.Rules.{present, son, Leads}
 use Rattle.model.specs.Least.{On}
@@ -25,8 +26,7 @@ abbrev pub flagged : List Bool → ℕ → Bool
 flagged fl s = slice_index_or fl (s - 1) false
 
 abbrev pub some_flagged : List Bool → List ℕ → Bool
-some_flagged fl [] = false
-some_flagged fl (b ∷ bs) = flagged fl b || some_flagged fl bs
+some_flagged fl bs = list_any (flagged fl) bs
 
 abbrev pub Waits : List ℕ → ℕ → ℕ → ℕ → Type 0
 Waits queue d n t = (k : ℕ) × (d ≤ k) × (k < n) × (slice_index queue k ≡ t)

@@ -1,14 +1,18 @@
 -- Which statements are told of an event, in the order of the rules. Assumes nothing.
+--     there p b                   the body b is there and passes the test p
 --     sons rules s                every body of the rules with head s
 --     parents rules s             the head of every rule that has s among its bodies
 --     all_told m e xs ts          the statements xs, once those with the numbers ts have answered the event e
-use Rattle.std.specs.Prelude.{ℕ, ◌-◌, cond, not, ◌&&◌, List, [], ◌∷◌, ◌++◌, ◌==◌, slice_set}
+use Rattle.std.specs.Prelude.{ℕ, ◌-◌, Bool, cond, not, ◌&&◌, List, [], ◌∷◌, ◌++◌, ◌==◌, slice_set}
 use Rattle.scales.specs.Meaning.{Meaning}
 use Rattle.model.specs.Rules.{present, holds}
 use Rattle.model.specs.declared.rule.Rule.{Rule}
 use Rattle.pasts.specs.Tables.{entered, told}
 use Rattle.pasts.specs.declared.statement.Event.{Event}
 use Rattle.pasts.specs.declared.statement.Statement.{Statement}
+
+abbrev pub there : (ℕ → Bool) → ℕ → Bool
+there p b = not (b == 0) && p b
 
 module _ {G : Type 0} where
   abbrev pub sons : List (Rule G) → ℕ → List ℕ

@@ -1,11 +1,12 @@
 // What is checked before a call: the tables, and the numbers that several calls ask for.
 ghost use Rattle.std.specs.Prelude.{◌≡◌, false, ◌||◌, [], ◌∷◌, length, nat_lt};
-ghost use Rattle.model.specs.Formed.{gap as has_gap, body_above, malformed as some_malformed, malformed_place};
+ghost use Rattle.std.specs.List.{list_any};
+ghost use Rattle.model.specs.Formed.{gap as has_gap, body_above, malformed_place};
 ghost use Rattle.pasts.specs.Refusals.{first, check as case_of, outside as out_of};
 ghost use Rattle.pasts.specs.Tables.{tables, length_checks, table_checks, body_checks};
 ghost use Rattle.pasts.specs.declared.refusal.Refusal.TheVariants.{NoSuchStatement};
 ghost use Rattle.board.specs.Answers.{refusal_of};
-ghost use Rattle.board.specs.Misplaced.{misplaced_after};
+ghost use Rattle.board.specs.Misplaced.{misplaced_after, misplaced_here};
 
 use model::Rule;
 use pasts::{Refusal, Statement};
@@ -22,33 +23,6 @@ pub(crate) fn outside(most: usize, k: usize) -> bool
     k == 0 || most < k
 }
 
-// Whether a body comes after an absent one.
-fn gap(bodies: [u16; 4]) -> bool
-    ensures { result ≡ has_gap bodies }
-{
-    let mut absent = false;
-    for b in bodies {
-        if b == 0 {
-            absent = true;
-        } else if absent {
-            return true;
-        }
-    }
-    false
-}
-
-// Whether a body is above `count`.
-fn names_above(bodies: [u16; 4], count: usize) -> bool
-    ensures { result ≡ body_above count bodies }
-{
-    for b in bodies {
-        if count < b as usize {
-            return true;
-        }
-    }
-    false
-}
-
 // Whether one of three bodies is above `count` or comes after an absent one.
 fn one_misplaced(a: u16, b: u16, c: u16, count: usize) -> bool
     ensures { result ≡ (nat_lt count a || (misplaced_after count a b || misplaced_after count b c)) }
@@ -62,7 +36,14 @@ fn one_misplaced(a: u16, b: u16, c: u16, count: usize) -> bool
     a == 0 || count < b as usize || count < c as usize
 }
 
-// Whether a body is above `count` or comes after an absent one. Few rules have four bodies: the others need no loops.
+// The same of four, the last of which is there, so that none may be absent.
+fn any_misplaced(bodies: &[u16; 4], count: usize) -> bool
+    ensures { result ≡ list_any (misplaced_here count) bodies.now }
+{
+    bodies.iter().any(|b| *b == 0 || count < *b as usize)
+}
+
+// Whether a body is above `count` or comes after an absent one. Few rules have four bodies: the others need no loop.
 fn ill_placed(bodies: &[u16; 4], count: usize) -> bool
     ensures { result ≡ (body_above count bodies.now || has_gap bodies.now) }
 {
@@ -70,7 +51,7 @@ fn ill_placed(bodies: &[u16; 4], count: usize) -> bool
     if d == 0 {
         return one_misplaced(a, b, c, count);
     }
-    names_above(*bodies, count) || gap(*bodies)
+    any_misplaced(bodies, count)
 }
 
 // Whether there is a rule in the place whose head or a body is above `count`, or whose bodies have a gap.
@@ -81,14 +62,9 @@ fn malformed<G: Copy>(rule: &Rule<G>, count: usize) -> bool
 }
 
 fn any_malformed<G: Copy>(rules: &[Rule<G>], count: usize) -> bool
-    ensures { result ≡ some_malformed count rules.now }
+    ensures { result ≡ list_any (malformed_place count) rules.now }
 {
-    for rule in rules {
-        if malformed(rule, count) {
-            return true;
-        }
-    }
-    false
+    rules.iter().any(|rule| malformed(rule, count))
 }
 
 // The tables are neither empty nor too long.

@@ -1,9 +1,10 @@
 // Which statements lead to one: flags that spread from it, from son to parent.
 ghost use Rattle.std.specs.Prelude.{◌≡◌, ℕ, ◌≤◌, false, length};
-ghost use Rattle.model.specs.Rules.{present};
+ghost use Rattle.std.specs.List.{list_any};
 ghost use Rattle.model.specs.Formed.{malformed};
 ghost use Rattle.model.specs.Least.{On};
-ghost use Rattle.board.specs.Flags.{flagged, some_flagged, spreading, Leading};
+ghost use Rattle.board.specs.Flags.{flagged, spreading, Leading};
+ghost use Rattle.board.specs.Telling.{there};
 
 use crate::numbered::at;
 use model::Rule;
@@ -18,14 +19,9 @@ pub(crate) fn is_flagged(flags: &[bool], s: u16) -> bool
 
 // Whether one of the bodies has a flag.
 fn touches(flags: &[bool], bodies: [u16; 4]) -> bool
-    ensures { result ≡ some_flagged flags.now (present bodies) }
+    ensures { result ≡ list_any (there (flagged flags.now)) bodies }
 {
-    for b in bodies {
-        if b != 0 && is_flagged(flags, b) {
-            return true;
-        }
-    }
-    false
+    bodies.iter().any(|b| *b != 0 && is_flagged(flags, *b))
 }
 
 // The head of a rule that has a flagged body, while the head has no flag yet.

@@ -6,11 +6,7 @@ pub(crate) fn at<T: Copy>(items: &[T], k: u16, other: T) -> T
     requires { 1 ≤ k }
     ensures { result ≡ slice_index_or items.now (k - 1) other }
 {
-    let i = k as usize - 1;
-    if i < items.len() {
-        return items[i];
-    }
-    other
+    items.get(k as usize - 1).copied().unwrap_or(other)
 }
 
 // The item becomes the one with the number `k`, if there is such a place.
@@ -18,6 +14,7 @@ pub(crate) fn put<T: Copy>(items: &mut [T], k: u16, item: T)
     requires { 1 ≤ k }
     ensures { items.new ≡ slice_set items.old (k - 1) item }
 {
+    // By index: of the other items no proof knows anything after a `get_mut`.
     let i = k as usize - 1;
     if i < items.len() {
         items[i] = item;

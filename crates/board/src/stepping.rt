@@ -11,7 +11,6 @@ ghost use Rattle.board.specs.Advances.{Picks, risen, advanced};
 
 use crate::blanks::statement_at;
 use crate::checking::check_tables;
-use crate::marking::{is_active, respond};
 use crate::numbered::put;
 use crate::telling::{open_sons, tell_parents};
 use crate::valuing::grade_of;
@@ -26,12 +25,8 @@ pub(crate) fn next_active<G: Scale>(statements: &[Statement<G>]) -> Option<u16>
     requires { length statements.now ≤ 1024 }
     ensures { Picks G.meaning statements.now result }
 {
-    for (i, x) in statements.iter().enumerate() {
-        if is_active(x.mark) {
-            return Some(i as u16 + 1);
-        }
-    }
-    None
+    let i = statements.iter().position(|x| x.mark.is_active())?;
+    Some(i as u16 + 1)
 }
 
 // The statement `s`, if there is one, is taken, with this grade.
@@ -39,7 +34,7 @@ pub(crate) fn take<G: Scale>(statements: &mut [Statement<G>], s: u16, grade: G)
     requires { 1 ≤ s }
     ensures { statements.new ≡ set statements.old (s - 1) (record { grade = grade; mark = answered (entered G.meaning statements.old s).mark Taken }) }
 {
-    let mark = respond(statement_at(statements, s).mark, Event::Taken);
+    let mark = statement_at(statements, s).mark.after(Event::Taken);
     put(statements, s, Statement { grade, mark });
 }
 
@@ -76,11 +71,7 @@ pub fn step<V: Survey>(
     ensures { Outcome V.Grade.Scale.meaning (V.degrees survey.now) Step (tables statements.old rules.now) (stepped result) (tables statements.new rules.now) }
 {
     check_tables(statements, rules)?;
-    match next_active(statements) {
-        None => Err(Refusal::NothingActive),
-        Some(s) => {
-            let rose = advance(survey, statements, rules, s);
-            Ok((s, rose))
-        }
-    }
+    let s = next_active(statements).ok_or(Refusal::NothingActive)?;
+    let rose = advance(survey, statements, rules, s);
+    Ok((s, rose))
 }

@@ -1,12 +1,12 @@
 // Telling statements of an event: one, the sons of one, or its parents.
-ghost use Rattle.std.specs.Prelude.{◌≡◌, ◌-◌, ◌≤◌, slice_set};
-ghost use Rattle.model.specs.Rules.{present, holds as has_body};
+ghost use Rattle.std.specs.Prelude.{◌≡◌, ◌==◌, ◌-◌, ◌≤◌, slice_set};
+ghost use Rattle.std.specs.List.{list_any};
+ghost use Rattle.model.specs.Rules.{present};
 ghost use Rattle.pasts.specs.Tables.{entered, told};
 ghost use Rattle.pasts.specs.declared.statement.Event.TheVariants.{Opened, SonRose};
-ghost use Rattle.board.specs.Telling.{sons, parents, all_told};
+ghost use Rattle.board.specs.Telling.{there, sons, parents, all_told};
 
 use crate::blanks::statement_at;
-use crate::marking::respond;
 use crate::numbered::put;
 use model::Rule;
 use pasts::{Event, Statement};
@@ -17,10 +17,7 @@ pub(crate) fn tell<G: Scale>(statements: &mut [Statement<G>], s: u16, event: Eve
     requires { 1 ≤ s }
     ensures { statements.new ≡ slice_set statements.old (s - 1) (told event (entered G.meaning statements.old s)) }
 {
-    let x = statement_at(statements, s);
-    let mark = respond(x.mark, event);
-    let grade = x.grade;
-    put(statements, s, Statement { grade, mark });
+    put(statements, s, statement_at(statements, s).told(event));
 }
 
 // The bodies that are there are opened.
@@ -47,14 +44,9 @@ pub(crate) fn open_sons<G: Scale>(statements: &mut [Statement<G>], rules: &[Rule
 
 // Whether `s` is one of the bodies.
 fn holds(bodies: [u16; 4], s: u16) -> bool
-    ensures { result ≡ has_body (present bodies) s }
+    ensures { result ≡ list_any (there (λ b. b == s)) bodies }
 {
-    for b in bodies {
-        if b != 0 && b == s {
-            return true;
-        }
-    }
-    false
+    bodies.iter().any(|b| *b != 0 && *b == s)
 }
 
 // The parents of `s`, which are the heads of the rules with a body `s`, are told that a son rose.
