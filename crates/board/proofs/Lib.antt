@@ -1,4 +1,5 @@
 pub mod Turns
+pub mod Weighed
 pub mod Any
 pub mod Told
 pub mod Taken

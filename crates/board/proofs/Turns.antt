@@ -4,12 +4,10 @@ use Rattle.std.proofs.lemmas.List.{drop_more, drop_all}
 use Rattle.std.proofs.lemmas.Bool.{eq-eqb, ne_eqb, cond-true, cond-false}
 use Rattle.scales.specs.Meaning.{Meaning}
 use Rattle.model.specs.Rules.{present, holds, folds, joined, value}
-use Rattle.model.specs.declared.rule.Form.{Form}
 use Rattle.model.specs.declared.rule.Rule.{Rule}
 use Rattle.pasts.specs.Tables.{entered, told}
 use Rattle.pasts.specs.declared.statement.Event.{Event}
 use Rattle.pasts.specs.declared.statement.Statement.{Statement}
-use Rattle.board.specs.Values.{combined, gathered}
 use Rattle.board.specs.Telling.{all_told, sons, parents}
 
 module _ {X : Type 0} (xs : List X) (i : ℕ) where
@@ -35,28 +33,6 @@ module _ (bs : List ℕ) (i : ℕ) (h : i < length bs) where
 
 pub none_left : {X Y : Type 0} (F : List X → Y) (xs : List X) (i : ℕ) → length xs ≤ i → F (drop i xs) ≡ F []
 none_left F xs i h = ap F (drop_all i xs h)
-
--- four bodies, read from the right: none is there from i on, or i is and the rest after it
-module _ (bs : List ℕ) (wide : length bs ≡ 4) where
-  pub none_from : present (drop 4 bs) ≡ []
-  none_from = none_left present bs 4 (omega arith)
-
-  module _ (i : ℕ) (h : i < 4) where
-    pub absent_at : get_or bs i 0 ≡ 0 → present (drop (i + 1) bs) ≡ [] → present (drop i bs) ≡ []
-    absent_at e rest = present_skip bs i (omega arith) e ∙ rest
-
-    pub there_at : 1 ≤ get_or bs i 0 → (rest : List ℕ) → present (drop (i + 1) bs) ≡ rest → present (drop i bs) ≡ get_or bs i 0 ∷ rest
-    there_at n rest e = present_more bs i (omega arith) (λ z. omega arith) ∙ ap (λ l. get_or bs i 0 ∷ l) e
-
--- what is gathered once bs is left to come
-module _ {G : Type 0} (m : Meaning G) (grade : ℕ → G) (f : Form) where
-  abbrev pub carried : Option G → List ℕ → Option G
-  carried None bs = gathered m grade f bs
-  carried (Some g) bs = Some (folds grade (combined m f) g bs)
-
-  pub carried_none : (o : Option G) → carried o [] ≡ o
-  carried_none None = refl
-  carried_none (Some g) = refl
 
 module _ {G : Type 0} (rs : List (Rule G)) (i : ℕ) (r : Rule G) (h : i < length rs) (read : r ≡ get_or rs i r) (s : ℕ) where
   module _ (m : Meaning G) (grade : ℕ → G) (g : G) where

@@ -1,8 +1,9 @@
 // What one rule says of its head, under the grades that the statements hold.
-ghost use Rattle.std.specs.Prelude.{◌≡◌, ◌≤◌, T};
-ghost use Rattle.model.specs.Rules.{present, blends, value as value_of};
+ghost use Rattle.std.specs.Prelude.{◌≡◌, ◌≤◌, IfSome, IsTrue, List, take, slice_index};
+ghost use Rattle.std.specs.Iterator.{Drains, IsFinite};
+ghost use Rattle.model.specs.Rules.{present, value as value_of};
 ghost use Rattle.pasts.specs.Tables.{grades};
-ghost use Rattle.board.specs.Values.{combined, gathered, Stands};
+ghost use Rattle.board.specs.Values.{weighed};
 
 use model::{Form, Rule};
 use pasts::Statement;
@@ -20,184 +21,84 @@ pub(crate) fn grade_of<G: Scale>(statements: &[Statement<G>], s: u16) -> G
     G::lowest()
 }
 
-// Takes one more grade in, by the form.
-fn combine<G: Scale>(form: Form, so_far: G, next: G) -> G
-    ensures { result ≡ combined G.meaning form so_far next }
+// What a rule with this form and weight says, once the grades of its bodies are read: the weight alone if there are none.
+// It is put into each call, so that a known number of bodies makes straight code.
+#[inline(always)]
+fn by_form<G: Scale, I: Iterator<Item = G>>(rule: &Rule<G>, grades: I) -> G
+    requires can { I.can_next grades }
+    requires finite { IsFinite (I.remaining grades) }
+    ensures { (gs : List G) × Drains I.next_gives grades gs × (result ≡ weighed G.meaning rule.now.form rule.now.weight gs) }
 {
-    match form {
-        Form::All => so_far.meet(next),
-        Form::Any => so_far.join(next),
-        Form::Chain => so_far.blend(next),
+    match rule.form {
+        Form::All => grades
+            .reduce(G::meet)
+            .map_or(rule.weight, |g| rule.weight.blend(g)),
+        Form::Any => grades
+            .reduce(G::join)
+            .map_or(rule.weight, |g| rule.weight.blend(g)),
+        Form::Chain => grades.fold(rule.weight, G::blend),
     }
 }
 
-// The weight with one body after the other blended in.
-fn chain<G: Scale>(statements: &[Statement<G>], weight: G, bodies: [u16; 4]) -> G
-    ensures { result ≡ blends G.meaning (grades G.meaning statements.now) weight (present bodies) }
+// What a rule says of its head whose bodies stand in the first N places.
+fn front<G: Scale, const N: usize>(statements: &[Statement<G>], rule: &Rule<G>) -> G
+    requires few { N ≤ 4 }
+    requires only { present rule.now.bodies ≡ take N rule.now.bodies }
+    ensures { result ≡ value_of G.meaning (grades G.meaning statements.now) rule.now }
 {
-    let mut total = weight;
-    for b in bodies {
-        if b != 0 {
-            total = total.blend(grade_of(statements, b));
-        }
-    }
-    total
-}
-
-// The grades of the bodies taken together, if there is one.
-fn gather<G: Scale>(statements: &[Statement<G>], form: Form, bodies: [u16; 4]) -> Option<G>
-    ensures { result ≡ gathered G.meaning (grades G.meaning statements.now) form (present bodies) }
-{
-    let mut total = None;
-    for b in bodies {
-        if b != 0 {
-            let next = grade_of(statements, b);
-            total = match total {
-                None => Some(next),
-                Some(g) => Some(combine(form, g, next)),
-            };
-        }
-    }
-    total
+    by_form(
+        rule,
+        rule.bodies[..N].iter().map(|b| grade_of(statements, *b)),
+    )
 }
 
 // What the rule says of its head, wherever its bodies stand.
 fn any_value<G: Scale>(statements: &[Statement<G>], rule: &Rule<G>) -> G
     ensures { result ≡ value_of G.meaning (grades G.meaning statements.now) rule.now }
 {
-    match rule.form {
-        Form::Chain => chain(statements, rule.weight, rule.bodies),
-        form => match gather(statements, form, rule.bodies) {
-            None => rule.weight,
-            Some(g) => rule.weight.blend(g),
-        },
-    }
-}
-
-// Which bodies of a rule are there: just the first one, two, three or four of them, or maybe others.
-// Nearly every rule has its bodies in front: straight code then takes them together, with one match of the form.
-#[derive(Clone, Copy)]
-enum Extent {
-    One,
-    Two,
-    Three,
-    Four,
-    Other,
+    let there = rule.bodies.iter().filter(|b| **b != 0);
+    by_form(rule, there.map(|b| grade_of(statements, *b)))
 }
 
 // Is there a statement with the number `b`? One test for both ends.
 fn is_held<G: Scale>(statements: &[Statement<G>], b: u16) -> bool
-    ensures { T result → 1 ≤ b }
+    ensures { IsTrue result → 1 ≤ b }
 {
     (b as usize).wrapping_sub(1) < statements.len()
 }
 
-// Where the bodies stand. A body after an absent one, or one that names no statement, is left to the general way.
-fn standing<G: Scale>(statements: &[Statement<G>], bodies: &[u16; 4]) -> Extent
-    ensures { Stands result bodies.now }
+// How many bodies there are, if they stand in front and each names a statement. Nearly every rule has its bodies so.
+// Test by test: with a loop or a table of patterns in its place the values of full boards took up to 1.4 times as long.
+fn in_front<G: Scale>(statements: &[Statement<G>], bodies: &[u16; 4]) -> Option<usize>
+    ensures only { IfSome result (λ n. present bodies.now ≡ take n bodies.now) }
+    ensures one { IfSome result (λ _. 1 ≤ slice_index bodies.now 0) }
 {
     let [a, b, c, d] = *bodies;
     if !is_held(statements, a) {
-        return Extent::Other;
+        return None;
     }
     if !is_held(statements, b) {
-        return if b == 0 && c == 0 && d == 0 {
-            Extent::One
-        } else {
-            Extent::Other
-        };
+        return (b == 0 && c == 0 && d == 0).then_some(1);
     }
     if !is_held(statements, c) {
-        return if c == 0 && d == 0 {
-            Extent::Two
-        } else {
-            Extent::Other
-        };
+        return (c == 0 && d == 0).then_some(2);
     }
     if !is_held(statements, d) {
-        return if d == 0 { Extent::Three } else { Extent::Other };
+        return (d == 0).then_some(3);
     }
-    Extent::Four
-}
-
-// What a rule with two bodies says.
-fn two<G: Scale>(statements: &[Statement<G>], rule: &Rule<G>) -> G
-    requires { Stands Extent.Two rule.now.bodies }
-    ensures { result ≡ value_of G.meaning (grades G.meaning statements.now) rule.now }
-{
-    let w = rule.weight;
-    let [a, b, _, _] = rule.bodies;
-    match rule.form {
-        Form::All => w.blend(grade_of(statements, a).meet(grade_of(statements, b))),
-        Form::Any => w.blend(grade_of(statements, a).join(grade_of(statements, b))),
-        Form::Chain => w
-            .blend(grade_of(statements, a))
-            .blend(grade_of(statements, b)),
-    }
-}
-
-// What a rule with three bodies says.
-fn three<G: Scale>(statements: &[Statement<G>], rule: &Rule<G>) -> G
-    requires { Stands Extent.Three rule.now.bodies }
-    ensures { result ≡ value_of G.meaning (grades G.meaning statements.now) rule.now }
-{
-    let w = rule.weight;
-    let [a, b, c, _] = rule.bodies;
-    match rule.form {
-        Form::All => w.blend(
-            grade_of(statements, a)
-                .meet(grade_of(statements, b))
-                .meet(grade_of(statements, c)),
-        ),
-        Form::Any => w.blend(
-            grade_of(statements, a)
-                .join(grade_of(statements, b))
-                .join(grade_of(statements, c)),
-        ),
-        Form::Chain => w
-            .blend(grade_of(statements, a))
-            .blend(grade_of(statements, b))
-            .blend(grade_of(statements, c)),
-    }
-}
-
-// What a rule with four bodies says.
-fn four<G: Scale>(statements: &[Statement<G>], rule: &Rule<G>) -> G
-    requires { Stands Extent.Four rule.now.bodies }
-    ensures { result ≡ value_of G.meaning (grades G.meaning statements.now) rule.now }
-{
-    let w = rule.weight;
-    let [a, b, c, d] = rule.bodies;
-    match rule.form {
-        Form::All => w.blend(
-            grade_of(statements, a)
-                .meet(grade_of(statements, b))
-                .meet(grade_of(statements, c))
-                .meet(grade_of(statements, d)),
-        ),
-        Form::Any => w.blend(
-            grade_of(statements, a)
-                .join(grade_of(statements, b))
-                .join(grade_of(statements, c))
-                .join(grade_of(statements, d)),
-        ),
-        Form::Chain => w
-            .blend(grade_of(statements, a))
-            .blend(grade_of(statements, b))
-            .blend(grade_of(statements, c))
-            .blend(grade_of(statements, d)),
-    }
+    Some(4)
 }
 
 // What the rule says of its head: its weight alone if it has no body, else by its form.
 pub(crate) fn value<G: Scale>(statements: &[Statement<G>], rule: &Rule<G>) -> G
     ensures { result ≡ value_of G.meaning (grades G.meaning statements.now) rule.now }
 {
-    match standing(statements, &rule.bodies) {
-        Extent::One => rule.weight.blend(grade_of(statements, rule.bodies[0])),
-        Extent::Two => two(statements, rule),
-        Extent::Three => three(statements, rule),
-        Extent::Four => four(statements, rule),
-        Extent::Other => any_value(statements, rule),
+    match in_front(statements, &rule.bodies) {
+        // By any form one body says the same.
+        Some(1) => rule.weight.blend(grade_of(statements, rule.bodies[0])),
+        Some(2) => front::<G, 2>(statements, rule),
+        Some(3) => front::<G, 3>(statements, rule),
+        Some(4) => front::<G, 4>(statements, rule),
+        _ => any_value(statements, rule),
     }
 }
