@@ -9,5 +9,4 @@ pub mod Spread
 pub mod Queued
 pub mod Fallen
 pub mod Exits
-pub mod Checks
 pub mod Logged
