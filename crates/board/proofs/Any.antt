@@ -2,8 +2,6 @@
 use Rattle.std.proofs.Common.{◌≡◌, ℕ, Bool, true, false, cond, not, ◌&&◌, ◌||◌, eqb, List, [], ◌∷◌, sym, refl, ap, ◌∙◌}
 use Rattle.std.specs.List.{list_any}
 use Rattle.model.specs.Rules.{present, holds}
-use Rattle.model.specs.Formed.{malformed, malformed_place}
-use Rattle.model.specs.declared.rule.Rule.{Rule}
 use Rattle.board.specs.Flags.{flagged, some_flagged}
 use Rattle.board.specs.Telling.{there}
 
@@ -21,6 +19,3 @@ any_holds s bs = any_is (there (λ b. eqb b s)) (λ l. holds (present l) s) refl
 
 pub any_touches : (fl : List Bool) (bs : List ℕ) → list_any (there (flagged fl)) bs ≡ some_flagged fl (present bs)
 any_touches fl bs = any_is (there (flagged fl)) (λ l. some_flagged fl (present l)) refl (λ b l. present_one (some_flagged fl) (flagged fl) (λ _ _. refl) b (eqb b 0) (present l)) bs
-
-pub any_malformed : {G : Type 0} (n : ℕ) (rs : List (Rule G)) → list_any (malformed_place n) rs ≡ malformed n rs
-any_malformed n rs = any_is (malformed_place n) (malformed n) refl (λ _ _. refl) rs

@@ -10,5 +10,4 @@ pub mod Spread
 pub mod Queued
 pub mod Fallen
 pub mod Exits
-pub mod Checks
 pub mod Logged

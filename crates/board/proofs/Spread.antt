@@ -9,7 +9,7 @@ use Rattle.model.specs.Formed.{malformed, malformed_place, body_above, gap}
 use Rattle.model.proofs.Sons.{son_on}
 use Rattle.board.specs.Flags.{flagged, some_flagged, spreads, spreading}
 use Rattle.model.specs.declared.rule.Rule.{Rule}
-use Rattle.board.proofs.Turns.{turn_taken, turn_left, none_left}
+use Rattle.board.proofs.Turns.{turn_taken, turn_left}
 
 -- the loop over rules
 module _ {G : Type 0} (fl : List Bool) (rs : List (Rule G)) (i : ℕ) (so_far : spreading fl (drop i rs) ≡ spreading fl rs) where
@@ -18,9 +18,6 @@ module _ {G : Type 0} (fl : List Bool) (rs : List (Rule G)) (i : ℕ) (so_far : 
 
   pub spread_next : (r : Rule G) → i < length rs → r ≡ get_or rs i r → spreads fl r ≡ false → spreading fl (drop (i + 1) rs) ≡ spreading fl rs
   spread_next r h read e = sym (turn_left rs i (spreading fl) r (spreads fl r) _ _ refl h read e) ∙ so_far
-
-  pub spread_end : length rs ≤ i → None ≡ spreading fl rs
-  spread_end h = sym (none_left (spreading fl) rs i h) ∙ so_far
 
 -- bodies
 touched : (fl : List Bool) (bs : List ℕ) → some_flagged fl bs ≡ true → (t : ℕ) × (holds bs t ≡ true) × (flagged fl t ≡ true)

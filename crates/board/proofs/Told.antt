@@ -1,6 +1,6 @@
 -- What telling a list of statements of an event leaves of each one.
-use Rattle.std.proofs.Common.{◌≡◌, ℕ, suc, ◌+◌, ◌-◌, ◌<◌, ◌≤◌, Bool, true, false, cond, not, ◌&&◌, ◌||◌, eqb, ◌≢◌, List, [], ◌∷◌, ◌++◌, length, get_or, set, Some, None, Option, MatchOption, sym, refl, ap, ◌∙◌, subst, ⊎_elim, arith, length-set}
-use Rattle.std.proofs.lemmas.List.{get_or_default, get_or_read, get_or-set_same, get_or-set_other}
+use Rattle.std.proofs.Common.{◌≡◌, ℕ, suc, ◌+◌, ◌-◌, ◌<◌, ◌≤◌, Bool, true, false, cond, not, ◌&&◌, ◌||◌, eqb, ◌≢◌, List, [], ◌∷◌, ◌++◌, length, get_or, set, Some, None, Option, MatchOption, sym, refl, ap, ◌∙◌, ⊎_elim, arith, length-set}
+use Rattle.std.proofs.lemmas.List.{get_or_read, get_or-set_same, get_or-set_other}
 use Rattle.std.proofs.lemmas.Bool.{both_ways, cases_lt, or_from, eqb-true, eqb-false}
 use Rattle.std.proofs.ByRecursion.{All-append}
 use Rattle.std.specs.List.{AllByRecursion as All, AllWithin, HoldsAt}
@@ -135,9 +135,6 @@ module _ {G : Type 0} (s : ℕ) where
 none_or_some : {i : ℕ} → Some i ≡ None → ⊥
 none_or_some e = cc
 
-some_same : {i j : ℕ} → Some i ≡ Some j → i ≡ j
-some_same e = cc
-
 module _ {G : Type 0} (m : Meaning G) where
   pub none_active : (xs : List (Statement G)) → ((k : ℕ) → k < length xs → active (get_or xs k (unopened m)).mark ≡ false) → some_active xs ≡ false
   none_active [] h = refl
@@ -161,9 +158,3 @@ module _ {G : Type 0} (m : Meaning G) where
   pub first_none : (xs : List (Statement G)) (o : Option ℕ) → First xs o → o ≡ None → some_active xs ≡ false
   first_none xs None f e = none_active xs (λ k h. f k (unopened m) (omega arith) h)
   first_none xs (Some i) f e = absurd (none_or_some e)
-
-  pub first_some : (xs : List (Statement G)) (o : Option ℕ) (i : ℕ) → First xs o → o ≡ Some i → Next m xs (i + 1)
-  first_some xs None i f e = absurd (none_or_some (sym e))
-  first_some xs (Some j) i f e =
-      let F : ℕ → Type 0 = λ k. Next m xs (k + 1) in
-      subst F (some_same e) (next_here xs j (get_or xs j (unopened m)) f.0 (get_or_default xs j (unopened m) (get_or xs j (unopened m)) f.0) (f.1 (unopened m)) (λ k h. f.2 k (unopened m) (omega arith) h))

@@ -36,9 +36,6 @@ none_left F xs i h = ap F (drop_all i xs h)
 
 module _ {G : Type 0} (rs : List (Rule G)) (i : ℕ) (r : Rule G) (h : i < length rs) (read : r ≡ get_or rs i r) (s : ℕ) where
   module _ (m : Meaning G) (grade : ℕ → G) (g : G) where
-    pub joined_skip : (r.head ≡ s → ⊥) → joined m grade s g (drop i rs) ≡ joined m grade s g (drop (i + 1) rs)
-    joined_skip n = turn_left rs i (joined m grade s g) r (eqb r.head s) _ _ refl h read (ne_eqb r.head s n)
-
     pub joined_more : r.head ≡ s → joined m grade s g (drop i rs) ≡ joined m grade s (m.join g (value m grade r)) (drop (i + 1) rs)
     joined_more e = turn_taken rs i (joined m grade s g) r (eqb r.head s) _ _ refl h read (eq-eqb r.head s e)
 

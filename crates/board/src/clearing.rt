@@ -9,7 +9,7 @@ use model::Rule;
 use pasts::{Refusal, Statement};
 use scales::Scale;
 
-// Every item becomes this one.
+// Every item becomes this one. (The library's `fill` asks for a clone that cannot fail, which `Copy` does not promise.)
 fn fill<T: Copy>(items: &mut [T], item: T)
     ensures { items.new ≡ replicate (length items.old) item }
 {

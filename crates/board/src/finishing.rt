@@ -1,4 +1,6 @@
-// Steps until no statement is active: by scans of the tables on a small board, else by chains (running.rt).
+// Steps until no statement is active: by scans of the tables on a small board, else by chains (running.rt). There are two ways, since on
+// a board of up to 16 statements and places the scans take 0.7 microseconds where the chains take 2.6; and they are no twins: a chain is
+// kept beside the tables, with facts of its own.
 ghost use Rattle.std.specs.Prelude.{◌≡◌, ◌≤◌, false, length};
 ghost use Rattle.model.specs.Formed.{malformed};
 ghost use Rattle.pasts.specs.Tables.{tables};

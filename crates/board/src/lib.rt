@@ -1,4 +1,7 @@
 // What a board does: the calls on its two lent tables, each held to its outcome, and whole pasts of them.
+// Every public call is a generic function over the two tables, which it is lent as slices of records: that is the interface. So the
+// tables go side by side within the crate too, and a function says itself what it needs of them once they are checked: a call changes
+// both of them, the statements alone or neither, so in place of one struct that holds them there would be three.
 #![tactic(auto)]
 
 mod adding;

@@ -51,7 +51,8 @@ fn try_call<V: Survey>(
     }
 }
 
-// Performs the call on the two tables. A refusal is an answer here.
+// Performs the call on the two tables. A refusal is an answer here. (By a `match`: where a constructor whose result names a type parameter
+// is handed to `unwrap_or_else`, no proof is made.)
 pub fn perform<V: Survey>(
     survey: &V,
     statements: &mut [Statement<V::Grade>],

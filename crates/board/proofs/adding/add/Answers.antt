@@ -4,9 +4,6 @@ use Rattle.pasts.specs.declared.call.Answer.TheVariants.{Added}
 use Rattle.pasts.specs.declared.call.Call.TheVariants.{Add}
 use Rattle.pasts.proofs.Outcomes.{call_unsound, call_refused, call_done}
 use Rattle.board.proofs.Exits.{exit_err}
-use Rattle.std.proofs.Common.{sym}
-use Rattle.pasts.proofs.Checked.{head_checked}
-use Rattle.board.proofs.Checks.{add_place}
 use Rattle.board.proofs.adding.add.Goals as goal
 
 pub returns-in_err-check_tables : goal.returns-in_err-check_tables
@@ -23,10 +20,3 @@ pub returns : goal.returns
 returns g c d =
     call_done g.G.Scale.meaning d (tables c.args.statements.now c.args.rules.now) (Add c.args.k c.args.rule) Added (tables c.tell.new.statements c.put.new.items) c.in_ok-check_tables.ensures c.in_ok-check_add.ensures
     (adds (record { rules = c.put.ensures; statements = c.tell.ensures }))
-
-pub put-requires : goal.put-requires
-put-requires g c = (add_place g.G.Scale.meaning (tables c.args.statements.now c.args.rules.now) c.args.k c.args.rule c.in_ok-check_add.ensures).0
-
-pub tell-requires : goal.tell-requires
-tell-requires g c =
-    (head_checked g.G.Scale.meaning c.args.k c.args.rule (tables c.args.statements.now c.args.rules.now) (sym c.in_ok-check_add.ensures)).0

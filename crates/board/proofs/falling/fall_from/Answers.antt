@@ -15,16 +15,14 @@ none_flagged n s =
     (λ h. get_or_past (replicate n false) (s - 1) false (rw length-replicate h))
     (cases_lt (s - 1) n)
 
-pub flag-requires : goal.flag-requires
-flag-requires g c =
-    let fl = c.no_flags-flags.result in
-    let long : length fl ≡ 1024 = ap length c.no_flags-flags.ensures ∙ length-replicate 1024 false in
-    let F : ℕ → Type 0 = λ n. malformed n c.args.rules.now ≡ false in record {
-      on = (c.requires.on.0, omega (arith, c.requires.on.1, c.requires.few));
-      long = omega arith;
-      formed = subst F (sym long) (formed_more (length c.args.statements.now) 1024 c.requires.few c.args.rules.now c.requires.formed);
-      none = λ s. ap (λ l. flagged l s) c.no_flags-flags.ensures ∙ none_flagged 1024 s;
-    }
+pub flag-requires-clause-formed : goal.flag-requires-clause-formed
+flag-requires-clause-formed g c =
+    let long : length c.no_flags-flags.result ≡ 1024 = ap length c.no_flags-flags.ensures ∙ length-replicate 1024 false in
+    let F : ℕ → Type 0 = λ n. malformed n c.args.rules.now ≡ false in
+    subst F (sym long) (formed_more (length c.args.statements.now) 1024 c.requires.few c.args.rules.now c.requires.formed)
+
+pub flag-requires-clause-none : goal.flag-requires-clause-none
+flag-requires-clause-none g c s = ap (λ l. flagged l s) c.no_flags-flags.ensures ∙ none_flagged 1024 s
 
 pub returns : goal.returns
 returns g c =

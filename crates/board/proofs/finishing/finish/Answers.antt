@@ -1,7 +1,5 @@
-use Rattle.std.proofs.Common.{sym}
 use Rattle.pasts.specs.Tables.{tables}
 use Rattle.pasts.specs.declared.call.Call.TheVariants.{Finish}
-use Rattle.pasts.proofs.Checked.{tables_checked}
 use Rattle.pasts.proofs.Outcomes.{call_unsound, finish_done}
 use Rattle.board.proofs.Exits.{exit_err}
 use Rattle.board.proofs.finishing.finish.Goals as goal
@@ -14,8 +12,3 @@ returns-in_err-check_tables g c =
 pub returns : goal.returns
 returns g c =
     finish_done g.V.Grade.Scale.meaning (g.V.Survey.degrees c.args.survey.now) (tables c.args.statements.now c.args.rules.now) c.run_either.result (tables c.run_either.new.statements c.args.rules.now) c.in_ok-check_tables.ensures c.run_either.ensures
-
-pub run_either-requires : goal.run_either-requires
-run_either-requires g c =
-    let ok = tables_checked (tables c.args.statements.now c.args.rules.now) (sym c.in_ok-check_tables.ensures) in
-    record { few = ok.0.1; places = ok.1.1; formed = ok.2 }

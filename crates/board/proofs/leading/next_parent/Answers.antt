@@ -3,7 +3,7 @@ use Rattle.std.proofs.lemmas.Bool.{and_from, and_left, and_right, eq-eqb, ne_eqb
 use Rattle.model.specs.Rules.{present}
 use Rattle.board.specs.Flags.{flagged, some_flagged}
 use Rattle.board.proofs.Any.{any_touches}
-use Rattle.board.proofs.Spread.{spread_here, spread_next, spread_end}
+use Rattle.board.proofs.Spread.{spread_here, spread_next}
 use Rattle.board.proofs.leading.next_parent.Goals as goal
 use Rattle.board.proofs.leading.next_parent.Goals.{else-rule-ne0-via-then-rule-ne0+then-not-is_flagged+else-touches, else-rule-ne0-via-then-rule-ne0+else-not-is_flagged, else-rule-ne0-via-else-rule-ne0}
 
@@ -20,9 +20,6 @@ loop-rule-preserved g c =
       | else-rule-ne0-via-then-rule-ne0+else-not-is_flagged w ↦ and_right x (y && z) (and_left y z (not_from_true (flagged fl r.head) (sym w.if-not-is_flagged.ensures)))
       | else-rule-ne0-via-else-rule-ne0 w ↦ and_left x (y && z) (not_from_true (eqb r.head 0) (eq-eqb r.head 0 w.if-rule-ne0.false))
     ])
-
-pub returns : goal.returns
-returns g c = spread_end c.args.flags.now c.args.rules.now c.loop-rule.rule-index c.loop-rule.invariant (omega arith)
 
 pub returns-then-touches : goal.returns-then-touches
 returns-then-touches g c =

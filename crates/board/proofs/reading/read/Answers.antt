@@ -6,7 +6,6 @@ use Rattle.pasts.specs.declared.call.Answer.TheVariants.{Graded}
 use Rattle.pasts.specs.declared.call.Call.TheVariants.{Read}
 use Rattle.pasts.proofs.Outcomes.{call_unsound, call_refused, call_done}
 use Rattle.board.proofs.Exits.{exit_err}
-use Rattle.board.proofs.Checks.{few_statements, read_on}
 use Rattle.board.proofs.reading.read.Goals as goal
 
 pub returns-in_err-check_tables : goal.returns-in_err-check_tables
@@ -25,9 +24,3 @@ returns g c d =
     let t = tables c.args.statements.now c.args.rules.now in
     let P : Answer g.row.G.Denot → Type 0 = λ a. Outcome m d (Read c.args.s) t a t in
     subst P (sym (ap₂ Graded c.grade_of-grade.ensures c.settled.ensures)) (call_done m d t (Read c.args.s) _ t c.in_ok-check_tables.ensures c.in_ok-check_read.ensures reads)
-
-pub grade_of-grade-requires : goal.grade_of-grade-requires
-grade_of-grade-requires g c = (read_on g.G.Scale.meaning (tables c.args.statements.now c.args.rules.now) c.args.s c.in_ok-check_read.ensures).0
-
-pub settled-requires : goal.settled-requires
-settled-requires g c = few_statements (tables c.args.statements.now c.args.rules.now) c.in_ok-check_tables.ensures

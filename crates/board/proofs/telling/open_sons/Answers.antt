@@ -2,7 +2,7 @@ use Rattle.std.proofs.Common.{◌+◌, drop, sym, ap, ◌∙◌, arith}
 use Rattle.model.specs.Rules.{present}
 use Rattle.board.specs.Telling.{all_told, sons}
 use Rattle.pasts.specs.declared.statement.Event.TheVariants.{Opened}
-use Rattle.board.proofs.Turns.{sons_skip, sons_more, none_left, all_told_append}
+use Rattle.board.proofs.Turns.{sons_skip, sons_more, all_told_append}
 use Rattle.board.proofs.telling.open_sons.Goals as goal
 use Rattle.board.proofs.telling.open_sons.Goals.{then-rule-s, else-rule-s}
 
@@ -19,8 +19,3 @@ loop-rule-preserved g c =
       | else-rule-s w ↦
           ap (λ x. all_told m Opened x (sons (drop (i + 1) rs) s)) w.statements-is ∙ sym (ap (all_told m Opened c.loop-rule.statements) (sons_skip rs i r (omega arith) c.rule-item.is s w.if-rule-s.false)) ∙ c.loop-rule.invariant
     ]
-
-pub returns : goal.returns
-returns g c =
-    let m = g.G.Scale.meaning in
-    sym (none_left (λ l. all_told m Opened c.loop-rule.statements (sons l c.args.s)) c.args.rules.now c.loop-rule.rule-index (omega arith)) ∙ c.loop-rule.invariant

@@ -4,7 +4,7 @@ use Rattle.model.specs.Rules.{present, holds}
 use Rattle.board.specs.Telling.{all_told, parents}
 use Rattle.pasts.specs.declared.statement.Event.TheVariants.{SonRose}
 use Rattle.board.proofs.Any.{any_holds}
-use Rattle.board.proofs.Turns.{parents_skip, parents_more, none_left}
+use Rattle.board.proofs.Turns.{parents_skip, parents_more}
 use Rattle.board.proofs.telling.tell_parents.Goals as goal
 use Rattle.board.proofs.telling.tell_parents.Goals.{then-rule-ne0+then-holds, else-rule-ne0, else-rule-ne0-via-then-rule-ne0+else-holds, else-rule-ne0-via-else-rule-ne0}
 
@@ -28,8 +28,3 @@ loop-rule-preserved g c =
           ] in
           ap (λ x. all_told m SonRose x (parents (drop (i + 1) rs) s)) w.statements-is ∙ sym (ap (all_told m SonRose c.loop-rule.statements) (parents_skip rs i r (omega arith) c.rule-item.is s fails)) ∙ c.loop-rule.invariant
     ]
-
-pub returns : goal.returns
-returns g c =
-    let m = g.G.Scale.meaning in
-    sym (none_left (λ l. all_told m SonRose c.loop-rule.statements (parents l c.args.s)) c.args.rules.now c.loop-rule.rule-index (omega arith)) ∙ c.loop-rule.invariant

@@ -1,12 +1,10 @@
-use Rattle.std.proofs.Common.{[], refl}
-use Rattle.pasts.specs.declared.refusal.Refusal.TheVariants.{NoSuchStatement}
+use Rattle.std.proofs.Common.{refl}
 use Rattle.pasts.specs.Tables.{tables}
 use Rattle.pasts.specs.Calls.{wants}
 use Rattle.pasts.specs.declared.call.Answer.TheVariants.{NowWanted}
 use Rattle.pasts.specs.declared.call.Call.TheVariants.{Want}
 use Rattle.pasts.proofs.Outcomes.{call_unsound, call_refused, call_done}
 use Rattle.board.proofs.Exits.{exit_err}
-use Rattle.board.proofs.Checks.{number_checked}
 use Rattle.board.proofs.wanting.want.Goals as goal
 
 pub returns-in_err-check_tables : goal.returns-in_err-check_tables
@@ -23,6 +21,3 @@ pub returns : goal.returns
 returns g c d =
     call_done g.G.Scale.meaning d (tables c.args.statements.now c.args.rules.now) (Want c.args.s) NowWanted (tables c.tell.new.statements c.args.rules.now) c.in_ok-check_tables.ensures c.in_ok-check_statement.ensures
     (wants (record { rules = refl; statements = c.tell.ensures }))
-
-pub tell-requires : goal.tell-requires
-tell-requires g c = (number_checked NoSuchStatement _ c.args.s [] c.in_ok-check_statement.ensures).0

@@ -20,19 +20,16 @@ returns-in_err-check_withdraw g c d =
     rw (exit_err _ c.from_residual-in_err-check_withdraw.result c.from_residual-in_err-check_withdraw.ensures.1)
     (call_refused g.G.Scale.meaning d (tables c.args.statements.now c.args.rules.now) (Withdraw c.args.k) _ c.in_ok-check_tables.ensures c.in_err-check_withdraw.ensures)
 
-pub fall_from-requires : goal.fall_from-requires
-fall_from-requires g c =
+pub fall_from-requires-clause-on : goal.fall_from-requires-clause-on
+fall_from-requires-clause-on g c =
     let m = g.G.Scale.meaning in
-    let t = tables c.args.statements.now c.args.rules.now in
+    let xs = c.args.statements.now in
+    let t = tables xs c.args.rules.now in
     let sound = tables_checked t (sym c.in_ok-check_tables.ensures) in
     let old = withdraw_checked m c.args.k t (sym c.in_ok-check_withdraw.ensures) in
     let place = old.0 in
-    let F : ℕ → Type 0 = λ h. On (length c.args.statements.now) h in
-    record {
-      on = subst F (sym c.head_at-head.ensures) (head_on (length c.args.statements.now) (c.args.k - 1) (blank m) c.args.rules.now sound.2 (omega arith) old.1);
-      few = sound.0.1;
-      formed = sound.2;
-    }
+    let F : ℕ → Type 0 = λ h. On (length xs) h in
+    subst F (sym c.head_at-head.ensures) (head_on (length xs) (c.args.k - 1) (blank m) c.args.rules.now sound.2 (omega arith) old.1)
 
 pub returns : goal.returns
 returns g c d =
@@ -48,9 +45,3 @@ returns g c d =
       closed = falls.closed;
       apart = falls.apart;
     }))
-
-pub head_at-head-requires : goal.head_at-head-requires
-head_at-head-requires g c = (withdraw_checked g.G.Scale.meaning c.args.k (tables c.args.statements.now c.args.rules.now) (sym c.in_ok-check_withdraw.ensures)).0.0
-
-pub put-requires : goal.put-requires
-put-requires g c = (withdraw_checked g.G.Scale.meaning c.args.k (tables c.args.statements.now c.args.rules.now) (sym c.in_ok-check_withdraw.ensures)).0.0
