@@ -23,6 +23,7 @@ fn body(line: &[u8]) -> Result<(u16, &[u8]), Expected>
 fn bodies(line: &[u8]) -> Result<[u16; 4], Expected>
     ensures { result ≡ bodies_of line.now }
 {
+    // four steps and no loop over the array: the meaning names the four bodies, and so each step is one line
     let (a, rest) = body(line)?;
     let (b, rest) = body(rest)?;
     let (c, rest) = body(rest)?;

@@ -46,6 +46,7 @@ impl fmt::Display for Expected {
 pub fn end(line: &[u8]) -> Result<(), Expected>
     ensures { result ≡ end_of line.now }
 {
+    // a plain choice, which then_some and ok_or would only hide
     if is_blank(line) {
         Ok(())
     } else {
