@@ -1,24 +1,14 @@
 // The line that makes a board: `board SCALE STATEMENTS PLACES [listed CODE...] [ramp NEAR FAR READING...]`.
-ghost use Rattle.std.specs.Prelude.{◌≡◌, replicate, IfOk};
-
-use crate::desks::Desk;
+use crate::desks::{Desk, Size};
 use crate::faults::ScriptError;
 use board::clear;
-use model::{Form, Rule};
-use pasts::{Mark, Statement};
 use plaintext::{is_blank, next_word, same_word, some_word};
-use scales::Written;
+use scales::{Percent, Written};
 use spelling::{Expected, grade_field, number_field, reading_field};
 use std::alloc::{AllocError, Global};
-use surveys::{Listed, Ramp};
+use surveys::{Joined, Listed, Ramp};
 
-// How long the tables of a board are to be. Lengths past a limit are judged alike, so one more than the limit is enough.
-#[derive(Clone, Copy)]
-pub struct Size {
-    pub statements: usize,
-    pub places: usize,
-}
-
+// Lengths past a limit are judged alike, so one more than the limit is enough.
 pub fn size_of(statements: &[u8], places: &[u8]) -> Result<Size, ScriptError> {
     let statements = (number_field(statements)? as usize).min(1025);
     let places = (number_field(places)? as usize).min(4097);
@@ -26,7 +16,7 @@ pub fn size_of(statements: &[u8], places: &[u8]) -> Result<Size, ScriptError> {
 }
 
 // The rest of the line from the word `ramp` on, empty where there is none.
-pub fn from_ramp(line: &[u8]) -> &[u8] {
+fn from_ramp(line: &[u8]) -> &[u8] {
     let mut rest = line;
     while let Some((word, after)) = some_word(rest) {
         if same_word(word, b"ramp") {
@@ -38,7 +28,7 @@ pub fn from_ramp(line: &[u8]) -> &[u8] {
 }
 
 // The grades after `listed`, up to a `ramp` or the end of the line; none where the line does not begin so.
-pub fn listed<G: Written>(heap: Global, line: &[u8]) -> Result<Listed<G>, ScriptError> {
+fn listed<G: Written>(heap: Global, line: &[u8]) -> Result<Listed<G>, ScriptError> {
     let mut grades = Vec::new(heap);
     let (first, mut rest) = next_word(line);
     if !same_word(first, b"listed") {
@@ -68,7 +58,7 @@ fn readings(heap: Global, line: &[u8]) -> Result<Vec<u16>, ScriptError> {
 }
 
 // The ramp that ends the line; where there is none, one that measured nothing.
-pub fn ramp(heap: Global, line: &[u8]) -> Result<Ramp, ScriptError> {
+fn ramp(heap: Global, line: &[u8]) -> Result<Ramp, ScriptError> {
     if is_blank(line) {
         return Ok(Ramp {
             readings: Vec::new(heap),
@@ -86,48 +76,23 @@ pub fn ramp(heap: Global, line: &[u8]) -> Result<Ramp, ScriptError> {
     })
 }
 
-// Only percent has a ramp.
-pub fn no_ramp(line: &[u8]) -> Result<(), ScriptError> {
+// The survey of a percent board.
+pub fn listed_and_ramp(
+    heap: Global,
+    line: &[u8],
+) -> Result<Joined<Listed<Percent>, Ramp>, ScriptError> {
+    let first = listed(heap, line)?;
+    let second = ramp(heap, from_ramp(line))?;
+    Ok(Joined { first, second })
+}
+
+// The survey of any other board: only percent has a ramp.
+pub fn listed_alone<G: Written>(heap: Global, line: &[u8]) -> Result<Listed<G>, ScriptError> {
     if is_blank(from_ramp(line)) {
-        Ok(())
+        listed(heap, line)
     } else {
         Err(ScriptError::Malformed(Expected::NoRamp))
     }
-}
-
-pub(crate) fn filled<T: Copy>(heap: Global, value: T, len: usize) -> Result<Vec<T>, AllocError>
-    ensures { IfOk result (λ v. v.items ≡ replicate len value) }
-{
-    let mut table = Vec::new(heap);
-    for _i in 0..len {
-        table.push(value)?;
-    }
-    Ok(table)
-}
-
-// A board over the survey with tables of this size.
-pub fn desk<G: Written, V: Drop>(
-    heap: Global,
-    survey: V,
-    size: Size,
-) -> Result<Desk<G, V>, AllocError> {
-    let statement = Statement {
-        grade: G::lowest(),
-        mark: Mark::Unopened,
-    };
-    let rule = Rule {
-        head: 0,
-        form: Form::All,
-        weight: G::lowest(),
-        bodies: [0; 4],
-    };
-    let statements = filled(heap, statement, size.statements)?;
-    let rules = filled(heap, rule, size.places)?;
-    Ok(Desk {
-        survey,
-        statements,
-        rules,
-    })
 }
 
 // Clears the board, and says so.
@@ -137,9 +102,6 @@ pub fn clear_line<G: Written, V>(
 ) -> Result<String, AllocError> {
     match clear(&mut desk.statements, &mut desk.rules) {
         Ok(()) => String::from_str(heap, "board: cleared\n"),
-        Err(refusal) => {
-            let number = refusal.number();
-            format!(in heap; "board: refused {number}\n")
-        }
+        Err(refusal) => format!(in heap; "board: {refusal}\n"),
     }
 }

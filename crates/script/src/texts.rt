@@ -1,8 +1,6 @@
 // Board text in scripts: a text read into the current board, and the board written as text.
 use crate::answers::push_word;
-use crate::boards::filled;
 use crate::desks::Desk;
-use pasts::Refusal;
 use plaintext::next_line;
 use scales::Written;
 use std::alloc::{AllocError, Global};
@@ -87,22 +85,14 @@ pub fn load_line<G: Written, V>(
 
 // The board as text, or why it is not written.
 pub fn write_line<G: Written, V>(heap: Global, desk: &Desk<G, V>) -> Result<String, AllocError> {
-    let mut buffer = filled(
-        heap,
-        0u8,
-        desk.rules.len().saturating_mul(38).saturating_add(12),
-    )?;
+    let room = desk.rules.len().saturating_mul(38).saturating_add(12);
+    let mut buffer = vec![in heap; 0u8; room]?;
     match write(&desk.statements, &desk.rules, &mut buffer) {
         Ok(len) => {
             let mut text = String::new(heap);
             push_word(&mut text, buffer.get(0..len).unwrap_or(&[]))?;
             Ok(text)
         }
-        Err(refusal) => refused(heap, refusal),
+        Err(refusal) => format!(in heap; "write: {refusal}\n"),
     }
-}
-
-fn refused(heap: Global, refusal: Refusal) -> Result<String, AllocError> {
-    let number = refusal.number();
-    format!(in heap; "write: refused {number}\n")
 }
