@@ -1,13 +1,15 @@
 // Plain text in and out: lines, words and decimal numbers of a text that is lent, and bars.
 #![tactic(auto)]
 
+mod appended;
 mod bars;
 mod classes;
+mod cuts;
 mod decimals;
-mod lines;
-mod words;
+mod iters;
 
+pub use appended::push_bytes;
 pub use bars::bar;
+pub use cuts::{is_blank, lines, next_line, next_word, same_word, some_word, words};
 pub use decimals::{number, small_number};
-pub use lines::next_line;
-pub use words::{is_blank, next_word, same_word, some_word};
+pub use iters::{Lines, Words};

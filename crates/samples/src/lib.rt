@@ -10,6 +10,8 @@ mod other_scales;
 #[cfg(test)]
 mod percents;
 #[cfg(test)]
+mod plain_texts;
+#[cfg(test)]
 mod scripts;
 #[cfg(test)]
 mod survey_tables;

@@ -1,9 +1,38 @@
-// The words of a line.
+// Lines and words at the front of a text.
 ghost use Rattle.std.specs.Prelude.{◌≡◌, ◌+◌, ◌<◌, ◌≤◌, length, IfSome};
-ghost use Rattle.plaintext.specs.Bytes.{Cuts, all_blank, after_word, first_word, next_word};
 ghost use Rattle.std.specs.Str.{bytes_eq};
+ghost use Rattle.plaintext.specs.Bytes.{Cuts, all_blank, after_word, first_word, next_line, next_word};
 
-use crate::classes::{Blank, InWord, leading_of};
+use crate::classes::{Blank, InLine, InWord, leading_of};
+use crate::iters::{Lines, Words};
+
+pub fn lines(text: &[u8]) -> Lines<'_>
+    ensures { result ≡ text.now }
+{
+    Lines { rest: text }
+}
+
+pub fn words(line: &[u8]) -> Words<'_>
+    ensures { result ≡ line.now }
+{
+    Words { rest: line }
+}
+
+// The first line without its line feed, and the text after it; none at the end of the text.
+pub fn next_line(text: &[u8]) -> Option<(&[u8], &[u8])>
+    ensures parts { Cuts result (next_line text.now) }
+    ensures shorter { IfSome result (λ x. length x.1.now < length text.now) }
+{
+    if text.is_empty() {
+        return None;
+    }
+    let n = leading_of::<InLine>(text);
+    if n < text.len() {
+        Some((&text[0..n], &text[n + 1..]))
+    } else {
+        Some((text, &[]))
+    }
+}
 
 // The first word, which is empty where the line is blank, and what follows it.
 pub fn next_word(line: &[u8]) -> (&[u8], &[u8])

@@ -1,0 +1,8 @@
+use Rattle.std.proofs.Common.{rules}
+use Rattle.std.proofs.lemmas.List.{map-id}
+use Rattle.std.proofs.lemmas.Iterator.{YieldsList-from_slice, YieldsList-from_map}
+use Rattle.std.proofs.lemmas.Iterator.Adapters.{items_from_extend}
+use Rattle.plaintext.proofs.appended.push_bytes.Goals as goal
+
+pub returns : goal.returns
+returns c = let h = items_from_extend c.extend.result c.extend.ensures.ran (YieldsList-from_map _ (λ b. b) (YieldsList-from_slice c.args.bytes.now (cc)) (cc) (λ x r q k. search rules)) in rw map-id at h
