@@ -31,8 +31,6 @@ fn percent_rule(head: u16, form: Form, weight: u8, bodies: [u16; 4]) -> Rule<Per
 }
 
 // The whole list at once.
-pub fn figures_hold() -> u8
+pub fn figures_hold()
     ensures { Figures }
-{
-    0
-}
+{}

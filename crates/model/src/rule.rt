@@ -7,7 +7,7 @@ use scales::Scale;
 
 // How a rule takes the grades of its bodies together: the meet of all, the join of any, or one blended into the next.
 // Board text spells them A, O and L.
-#[derive(Clone, Copy)]
+#[derive(Clone, Copy, Debug, PartialEq, Eq)]
 pub enum Form {
     All,
     Any,
@@ -15,7 +15,7 @@ pub enum Form {
 }
 
 impl Form {
-    // The form that a letter spells; there is no other.
+    // The form that a letter spells; there is no other. Letters are matched as chars, and written as bytes.
     pub fn from_letter(letter: char) -> Option<Form>
         ensures { result ≡ spelled_by letter }
     {
@@ -39,9 +39,9 @@ impl Form {
     }
 }
 
-// A rule for the statement `head`, or a blank place if `head` is 0; a body that is 0 is absent.
-// The mark of a rule is the number of its place in the table, and no part of the rule.
-#[derive(Clone, Copy)]
+// A rule for the statement `head`, or a blank place if `head` is 0; a body that is 0 is absent. Tables of such records are lent by callers, so
+// their numbers say what an `Option` would. The mark of a rule is the number of its place in the table, and no part of the rule.
+#[derive(Clone, Copy, Debug)]
 pub struct Rule<G> {
     pub head: u16,
     pub form: Form,

@@ -8,7 +8,7 @@ use crate::percent::Percent;
 use crate::scale::{Scale, Short, Written};
 use crate::turned::Turned;
 
-#[derive(Clone, Copy)]
+#[derive(Clone, Copy, Debug)]
 pub struct Pair<A, B> {
     pub first: A,
     pub second: B,
@@ -76,13 +76,15 @@ impl<A: Short, B: Short> Written for Pair<A, B> {
     ghost codes = { pair_codes A.Short.codes B.Short.codes };
 
     fn code(self) -> u16 {
-        256 * self.first.short_code() as u16 + self.second.short_code() as u16
+        u16::from_be_bytes([self.first.short_code(), self.second.short_code()])
     }
 
     fn decode(code: u16) -> Option<Self> {
-        let first = A::decode_short((code / 256) as u8)?;
-        let second = B::decode_short((code % 256) as u8)?;
-        Some(Pair { first, second })
+        let [first, second] = code.to_be_bytes();
+        Some(Pair {
+            first: A::decode_short(first)?,
+            second: B::decode_short(second)?,
+        })
     }
 }
 

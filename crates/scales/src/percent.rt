@@ -6,7 +6,7 @@ ghost use Rattle.scales.specs.PercentLaws.{percent_laws, percent_short_codes, pe
 use crate::scale::{Scale, Short, Written};
 
 // A grade from 0 to 100, held as any byte: 101 to 255 hold the grade 100 too.
-#[derive(Clone, Copy)]
+#[derive(Clone, Copy, Debug)]
 pub struct Percent {
     pub value: u8,
 }
@@ -49,7 +49,7 @@ impl Scale for Percent {
     }
 
     fn blend(self, other: Percent) -> Percent {
-        let product = self.points() as u16 * other.points() as u16;
+        let product = u16::from(self.points()) * u16::from(other.points());
         Percent {
             value: (product / 100) as u8,
         }
@@ -60,11 +60,11 @@ impl Scale for Percent {
     }
 
     fn level(self) -> u16 {
-        self.points() as u16
+        u16::from(self.points())
     }
 
     fn height() -> u16 {
-        FULL as u16
+        u16::from(FULL)
     }
 }
 
@@ -80,11 +80,7 @@ impl Short for Percent {
     }
 
     fn decode_short(code: u8) -> Option<Percent> {
-        if code <= FULL {
-            Some(Percent { value: code })
-        } else {
-            None
-        }
+        (code <= FULL).then_some(Percent { value: code })
     }
 }
 
@@ -94,14 +90,10 @@ impl Written for Percent {
     ghost codes = { percent_written_codes };
 
     fn code(self) -> u16 {
-        self.points() as u16
+        u16::from(self.points())
     }
 
     fn decode(code: u16) -> Option<Percent> {
-        if code <= FULL as u16 {
-            Some(Percent { value: code as u8 })
-        } else {
-            None
-        }
+        Percent::decode_short(u8::try_from(code).ok()?)
     }
 }

@@ -4,6 +4,8 @@ ghost use Rattle.scales.specs.Codes.{Codes, Coding};
 ghost use Rattle.scales.specs.Laws.{Laws};
 ghost use Rattle.scales.specs.Meaning.{Meaning};
 
+// The order is a test of its own, not a `PartialOrd`: the meaning has it beside the bounds and levels that its laws are about, and two held
+// values may be one grade.
 pub trait Scale: Copy {
     ghost meaning: { Meaning Self };
 
@@ -37,6 +39,7 @@ pub trait Scale: Copy {
 }
 
 // A scale with at most 256 grades and a height of at most 255, so that two of them make a pair.
+// `Short` and `Written` are two traits: supplier sets and pairs are written and not short.
 pub trait Short: Scale {
     ghost coding: { Coding Self };
 

@@ -5,7 +5,7 @@ ghost use Rattle.scales.specs.TurnedLaws.{turned_laws, turned_codes};
 use crate::scale::{Scale, Short, Written};
 
 // A grade of the scale `S`, on the scale that is `S` turned round.
-#[derive(Clone, Copy)]
+#[derive(Clone, Copy, Debug)]
 pub struct Turned<S> {
     pub grade: S,
 }
@@ -39,9 +39,7 @@ impl<S: Scale> Scale for Turned<S> {
 
     // By its own meet, whatever the blend of `S` is.
     fn blend(self, other: Self) -> Self {
-        Turned {
-            grade: self.grade.join(other.grade),
-        }
+        self.meet(other)
     }
 
     fn at_or_below(self, other: Self) -> bool {
@@ -69,10 +67,7 @@ impl<S: Short> Short for Turned<S> {
     }
 
     fn decode_short(code: u8) -> Option<Self> {
-        match S::decode_short(code) {
-            Some(grade) => Some(Turned { grade }),
-            None => None,
-        }
+        S::decode_short(code).map(|grade| Turned { grade })
     }
 }
 
@@ -86,9 +81,6 @@ impl<S: Written> Written for Turned<S> {
     }
 
     fn decode(code: u16) -> Option<Self> {
-        match S::decode(code) {
-            Some(grade) => Some(Turned { grade }),
-            None => None,
-        }
+        S::decode(code).map(|grade| Turned { grade })
     }
 }

@@ -5,12 +5,13 @@ ghost use Rattle.scales.specs.VerdictLaws.{verdict_laws, verdict_short_codes, ve
 use crate::scale::{Scale, Short, Written};
 
 // False lies below unknown (nobody says so) and inconsistent (they contradict), which lie below true and are not comparable.
-#[derive(Clone, Copy)]
+// Each has its code as its number.
+#[derive(Clone, Copy, Debug, PartialEq, Eq)]
 pub enum Verdict {
-    False,
-    Unknown,
-    Inconsistent,
-    True,
+    False = 0,
+    Unknown = 1,
+    Inconsistent = 2,
+    True = 3,
 }
 
 impl Scale for Verdict {
@@ -27,22 +28,22 @@ impl Scale for Verdict {
     }
 
     fn join(self, other: Verdict) -> Verdict {
-        match (self, other) {
-            (Verdict::False, b) => b,
-            (a, Verdict::False) => a,
-            (Verdict::Unknown, Verdict::Unknown) => Verdict::Unknown,
-            (Verdict::Inconsistent, Verdict::Inconsistent) => Verdict::Inconsistent,
-            _ => Verdict::True,
+        if self.at_or_below(other) {
+            other
+        } else if other.at_or_below(self) {
+            self
+        } else {
+            Verdict::True
         }
     }
 
     fn meet(self, other: Verdict) -> Verdict {
-        match (self, other) {
-            (Verdict::True, b) => b,
-            (a, Verdict::True) => a,
-            (Verdict::Unknown, Verdict::Unknown) => Verdict::Unknown,
-            (Verdict::Inconsistent, Verdict::Inconsistent) => Verdict::Inconsistent,
-            _ => Verdict::False,
+        if self.at_or_below(other) {
+            self
+        } else if other.at_or_below(self) {
+            other
+        } else {
+            Verdict::False
         }
     }
 
@@ -51,20 +52,13 @@ impl Scale for Verdict {
     }
 
     fn at_or_below(self, other: Verdict) -> bool {
-        match (self, other) {
-            (Verdict::False, _) => true,
-            (_, Verdict::True) => true,
-            (Verdict::Unknown, Verdict::Unknown) => true,
-            (Verdict::Inconsistent, Verdict::Inconsistent) => true,
-            _ => false,
-        }
+        self == other || self == Verdict::False || other == Verdict::True
     }
 
     fn level(self) -> u16 {
         match self {
             Verdict::False => 0,
-            Verdict::Unknown => 1,
-            Verdict::Inconsistent => 1,
+            Verdict::Unknown | Verdict::Inconsistent => 1,
             Verdict::True => 2,
         }
     }
@@ -82,14 +76,10 @@ impl Short for Verdict {
     ghost low = { verdict_low };
 
     fn short_code(self) -> u8 {
-        match self {
-            Verdict::False => 0,
-            Verdict::Unknown => 1,
-            Verdict::Inconsistent => 2,
-            Verdict::True => 3,
-        }
+        self as u8
     }
 
+    // The error of a `TryFrom` would say no more than `None`.
     fn decode_short(code: u8) -> Option<Verdict> {
         match code {
             0 => Some(Verdict::False),
@@ -107,14 +97,10 @@ impl Written for Verdict {
     ghost codes = { verdict_written_codes };
 
     fn code(self) -> u16 {
-        self.short_code() as u16
+        u16::from(self.short_code())
     }
 
     fn decode(code: u16) -> Option<Verdict> {
-        if code <= 255 {
-            Verdict::decode_short(code as u8)
-        } else {
-            None
-        }
+        Verdict::decode_short(u8::try_from(code).ok()?)
     }
 }

@@ -6,7 +6,7 @@ use crate::survey::Survey;
 use crate::table::entry_or;
 use scales::{Percent, Scale};
 
-// What stands in the table for a line that nobody has measured.
+// What stands in the table for a line that nobody has measured. Readings come as numbers, and 0 is this one, so it is no `None`.
 pub const UNMEASURED: u16 = 0;
 
 // Entry s of the readings, counted from 1, is statement s's. A reading up to the near shoulder gives 100, one beyond it and from the far
@@ -32,8 +32,8 @@ impl Ramp {
         if reading >= self.far {
             return Percent::lowest();
         }
-        let left = (self.far - reading) as u32;
-        let span = (self.far - self.near) as u32;
+        let left = u32::from(self.far - reading);
+        let span = u32::from(self.far - self.near);
         Percent {
             value: (100 * left / span) as u8,
         }

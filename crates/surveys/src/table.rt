@@ -6,9 +6,9 @@ ghost use Rattle.surveys.specs.Tables.{entry};
 pub fn entry_or<T: Copy>(table: &[T], statement: u16, none: T) -> T
     ensures { result ≡ entry none table.now statement }
 {
-    let s = statement as usize;
-    if s == 0 || s > table.len() {
-        return none;
-    }
-    table[s - 1]
+    usize::from(statement)
+        .checked_sub(1)
+        .and_then(|index| table.get(index))
+        .copied()
+        .unwrap_or(none)
 }
