@@ -1,5 +1,6 @@
 // The line that answers a call.
 use pasts::Answer;
+use plaintext::push_bytes;
 use scales::Written;
 use std::alloc::{AllocError, Global};
 
@@ -11,18 +12,11 @@ pub fn answer_line<G: Written>(
     answer: Answer<G>,
 ) -> Result<String, AllocError> {
     let mut line = String::new(heap);
-    push_word(&mut line, verb)?;
+    push_bytes(&mut line, verb)?;
     if !number.is_empty() {
         line.push(' ')?;
-        push_word(&mut line, number)?;
+        push_bytes(&mut line, number)?;
     }
     writeln!(line, ": {answer}")?;
     Ok(line)
-}
-
-pub(crate) fn push_word(line: &mut String, word: &[u8]) -> Result<(), AllocError> {
-    for byte in word {
-        line.push(*byte as char)?;
-    }
-    Ok(())
 }

@@ -14,7 +14,7 @@ pub enum ScriptError {
 impl fmt::Display for ScriptError {
     fn fmt<W: fmt::Write>(&self, f: &mut fmt::Formatter<W>) -> fmt::Result {
         match self {
-            ScriptError::Malformed(expected) => write!(f, "expected {}", expected.words()),
+            ScriptError::Malformed(due) => write!(f, "expected {}", due.words()),
             ScriptError::NoMemory => write!(f, "out of memory"),
         }
     }

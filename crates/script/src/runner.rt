@@ -5,7 +5,7 @@ use crate::desks::Desk;
 use crate::dumps::{grades, tables};
 use crate::faults::ScriptError;
 use crate::texts::{Loaded, load_line, write_line};
-use plaintext::{is_blank, next_word, same_word};
+use plaintext::{next_word, words};
 use scales::{Belief, Percent, Suppliers, Verdict, Written};
 use spelling::{Expected, end, spelled_call};
 use std::alloc::Global;
@@ -46,12 +46,10 @@ pub fn run_line(heap: Global, script: &mut Script, line: &[u8]) -> Result<String
 
 // The path that a `load` line names.
 pub fn load_path(line: &[u8]) -> Option<&[u8]> {
-    let (verb, rest) = next_word(line);
-    let (path, after) = next_word(rest);
-    if same_word(verb, b"load") && !path.is_empty() && is_blank(after) {
-        Some(path)
-    } else {
-        None
+    let mut words = words(line);
+    match (words.next(), words.next(), words.next()) {
+        (Some(b"load"), path, None) => path,
+        _ => None,
     }
 }
 

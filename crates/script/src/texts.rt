@@ -1,10 +1,9 @@
 // Board text in scripts: a text read into the current board, and the board written as text.
-use crate::answers::push_word;
 use crate::desks::Desk;
-use plaintext::next_line;
+use plaintext::{lines, push_bytes};
 use scales::Written;
 use std::alloc::{AllocError, Global};
-use text::{Fault, Layer, Report, load, write};
+use text::{Layer, Place, Report, load, write};
 
 // What a load prints, and what it tells a person besides.
 #[derive(Drop)]
@@ -29,32 +28,14 @@ fn fault_words(heap: Global, report: Report) -> Result<String, AllocError> {
     format!(in heap; "refused {number} at {layer} line {line} column {column}\n")
 }
 
-// The line of the text with this number, counted from 1; empty where there is none.
-fn line_of(text: &[u8], number: usize) -> &[u8] {
-    let mut rest = text;
-    let mut n: usize = 0;
-    while let Some((line, after)) = next_line(rest) {
-        n = n.saturating_add(1);
-        if n == number {
-            return line;
-        }
-        rest = after;
-    }
-    &[]
-}
-
-// The offending line with a mark below its column.
-fn marked_line(heap: Global, text: &[u8], report: Report) -> Result<String, AllocError> {
+// The offending line with a mark below its column; empty where the fault stands on no line.
+fn marked_line(heap: Global, text: &[u8], place: Place) -> Result<String, AllocError> {
     let mut note = String::new(heap);
-    if report.place.line == 0 {
-        return Ok(note);
+    if let Some(before) = place.line.checked_sub(1) {
+        let column = place.column;
+        push_bytes(&mut note, lines(text).nth(before).unwrap_or(&[]))?;
+        writeln!(note, "\n{:>column$}", "^")?;
     }
-    push_word(&mut note, line_of(text, report.place.line))?;
-    note.push('\n')?;
-    for _i in 1..report.place.column {
-        note.push(' ')?;
-    }
-    note.push_str("^\n")?;
     Ok(note)
 }
 
@@ -66,18 +47,18 @@ pub fn load_line<G: Written, V>(
     text: &[u8],
 ) -> Result<Loaded, AllocError> {
     let mut answer = String::from_str(heap, "load ")?;
-    push_word(&mut answer, path)?;
-    answer.push_str(": ")?;
+    push_bytes(&mut answer, path)?;
     match load(text, &mut desk.statements, &mut desk.rules) {
         Ok(count) => {
-            answer.push_str(format!(in heap; "{count} rules\n")?.as_str())?;
+            writeln!(answer, ": {count} rules")?;
             let note = String::new(heap);
             Ok(Loaded { answer, note })
         }
         Err(fault) => {
             let report = fault.report();
+            answer.push_str(": ")?;
             answer.push_str(fault_words(heap, report)?.as_str())?;
-            let note = marked_line(heap, text, report)?;
+            let note = marked_line(heap, text, report.place)?;
             Ok(Loaded { answer, note })
         }
     }
@@ -90,7 +71,7 @@ pub fn write_line<G: Written, V>(heap: Global, desk: &Desk<G, V>) -> Result<Stri
     match write(&desk.statements, &desk.rules, &mut buffer) {
         Ok(len) => {
             let mut text = String::new(heap);
-            push_word(&mut text, buffer.get(0..len).unwrap_or(&[]))?;
+            push_bytes(&mut text, buffer.get(0..len).unwrap_or(&[]))?;
             Ok(text)
         }
         Err(refusal) => format!(in heap; "write: {refusal}\n"),
