@@ -1,55 +1,35 @@
-// Classes of bytes, and how many bytes of one begin a text.
-ghost use Rattle.std.specs.Prelude.{◌≡◌, ℕ, ◌≤◌, Bool, length};
-ghost use Rattle.plaintext.specs.Bytes.{blank, in_line, in_word};
+// Classes of bytes, and how many bytes of one begin a text. The library's `take_while` takes the class as a closure.
+ghost use Rattle.std.specs.Prelude.{◌≡◌, ◌≤◌, length};
 ghost use Rattle.std.specs.List.{prefix_len};
+ghost use Rattle.plaintext.specs.Bytes.{blank, in_line, in_word};
 
-pub trait Class {
-    ghost member: { ℕ → Bool };
-
-    fn has(byte: u8) -> bool
-        ensures { result ≡ member byte };
+fn is_between_words(byte: u8) -> bool
+    ensures { result ≡ blank byte }
+{
+    matches!(byte, b' ' | b'\t' | b'\r')
 }
 
-// Blank, tab and carriage return.
-pub struct Blank;
-
-impl Class for Blank {
-    ghost member = { blank };
-
-    fn has(byte: u8) -> bool {
-        byte == b' ' || byte == b'\t' || byte == b'\r'
-    }
-}
-
-pub struct InWord;
-
-impl Class for InWord {
-    ghost member = { in_word };
-
-    fn has(byte: u8) -> bool {
-        !Blank::has(byte)
-    }
-}
-
-pub struct InLine;
-
-impl Class for InLine {
-    ghost member = { in_line };
-
-    fn has(byte: u8) -> bool {
-        byte != b'\n'
-    }
-}
-
-// How many bytes at the front of `text` are of the class.
-pub fn leading_of<C: Class>(text: &[u8]) -> usize
-    ensures value { result ≡ prefix_len C.member text.now }
+pub fn blank_len(text: &[u8]) -> usize
+    ensures value { result ≡ prefix_len blank text.now }
     ensures bound { result ≤ length text.now }
 {
-    for (n, byte) in text.iter().enumerate() {
-        if !C::has(*byte) {
-            return n;
-        }
-    }
-    text.len()
+    text.iter()
+        .take_while(|byte| is_between_words(**byte))
+        .count()
+}
+
+pub fn word_len(text: &[u8]) -> usize
+    ensures value { result ≡ prefix_len in_word text.now }
+    ensures bound { result ≤ length text.now }
+{
+    text.iter()
+        .take_while(|byte| !is_between_words(**byte))
+        .count()
+}
+
+pub fn line_len(text: &[u8]) -> usize
+    ensures value { result ≡ prefix_len in_line text.now }
+    ensures bound { result ≤ length text.now }
+{
+    text.iter().take_while(|byte| **byte != b'\n').count()
 }

@@ -3,7 +3,7 @@ ghost use Rattle.std.specs.Prelude.{◌≡◌, ◌+◌, ◌<◌, ◌≤◌, leng
 ghost use Rattle.std.specs.Str.{bytes_eq};
 ghost use Rattle.plaintext.specs.Bytes.{Cuts, all_blank, after_word, first_word, next_line, next_word};
 
-use crate::classes::{Blank, InLine, InWord, leading_of};
+use crate::classes::{blank_len, line_len, word_len};
 use crate::iters::{Lines, Words};
 
 pub fn lines(text: &[u8]) -> Lines<'_>
@@ -26,9 +26,9 @@ pub fn next_line(text: &[u8]) -> Option<(&[u8], &[u8])>
     if text.is_empty() {
         return None;
     }
-    let n = leading_of::<InLine>(text);
+    let n = line_len(text);
     if n < text.len() {
-        Some((&text[0..n], &text[n + 1..]))
+        Some((&text[..n], &text[n + 1..]))
     } else {
         Some((text, &[]))
     }
@@ -40,8 +40,8 @@ pub fn next_word(line: &[u8]) -> (&[u8], &[u8])
     ensures rest { result.1.now ≡ after_word line.now }
     ensures bound { length result.0.now + length result.1.now ≤ length line.now }
 {
-    let (_, start) = line.split_at(leading_of::<Blank>(line));
-    start.split_at(leading_of::<InWord>(start))
+    let (_, start) = line.split_at(blank_len(line));
+    start.split_at(word_len(start))
 }
 
 // The same where there is a word, and none where the line is blank.
@@ -61,7 +61,7 @@ pub fn some_word(line: &[u8]) -> Option<(&[u8], &[u8])>
 pub fn is_blank(line: &[u8]) -> bool
     ensures { result ≡ all_blank line.now }
 {
-    leading_of::<Blank>(line) == line.len()
+    blank_len(line) == line.len()
 }
 
 // Whether two words are the same.
