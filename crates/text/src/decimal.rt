@@ -1,5 +1,5 @@
 // Numbers in five columns: blanks, then decimal digits with no leading zero but 0 itself.
-ghost use Rattle.std.specs.Prelude.{◌≡◌, ◌<◌, ◌≤◌, length};
+ghost use Rattle.std.specs.Prelude.{◌≡◌, ◌<◌, length};
 ghost use Rattle.std.specs.Option.{unwrap_or};
 ghost use Rattle.text.specs.Decimal.{parsed, step, written, column};
 
@@ -18,8 +18,7 @@ fn next(value: Option<u32>, b: u8) -> Option<Option<u32>>
 }
 
 // The number that the columns spell, if they spell one.
-pub fn parse(field: &[u8]) -> Option<u32>
-    requires { length field.now ≤ 5 }
+pub fn parse(field: &[u8; 5]) -> Option<u32>
     ensures { result ≡ parsed field.now }
 {
     let mut value: Option<u32> = None;
