@@ -55,11 +55,9 @@ fn write_rules<G: Written>(rules: &[Rule<G>], out: &mut [u8])
     ensures { out.new ≡ flat_map (row_bytes G.coding) (held 1 rules.now) ++ drop (38 * length (held 1 rules.now)) out.old }
 {
     let mut at = 0;
-    let mut mark: u16 = 0;
-    for rule in rules {
-        mark += 1;
+    for (i, rule) in rules.iter().enumerate() {
         if rule.head != 0 {
-            write_rule(mark, rule, &mut out[at..]);
+            write_rule(i as u16 + 1, rule, &mut out[at..]);
             at += 38;
         }
     }
