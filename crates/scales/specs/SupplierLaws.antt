@@ -7,9 +7,11 @@ use Rattle.std.specs.Prelude.{◌≡◌, ℕ, zero, suc, ◌+◌, ◌*◌, ◌%�
 use Rattle.std.proofs.Common.{sym, ap, ◌∙◌, ⊎_elim, mod-eq_of_lt, one-add, arith, lit<}
 use Rattle.std.proofs.Math.Nat.{zero-div}
 use Rattle.std.proofs.Math.Arith.{lt-one}
+use Rattle.std.specs.Int.{bit_at}
 use Rattle.std.specs.Int.Bits.{bit_and, bit_or}
 use Rattle.std.specs.Int.Count.{ones}
 use Rattle.std.proofs.lemmas.Nat.{mod-pow-add, mod_below, pow_pos, and_le_l, and_comm, and_mask, or_lt, ones-le, ones_cat}
+use Rattle.std.proofs.lemmas.Nat.Bits.{bit_at_and, bit_at_or, bit_at-lt}
 use Rattle.std.proofs.lemmas.Bool.{eqb-true, eq-eqb, and_parts, not-true, both_ways}
 use Rattle.scales.specs.Meaning.{Under, Same, above}
 use Rattle.scales.specs.Laws.{Laws}
@@ -17,7 +19,7 @@ use Rattle.scales.specs.Codes.{Codes}
 use Rattle.scales.specs.SupplierSets.{bits, set_of, has, suppliers, supplier_coding, tally, coded, SetsAre}
 use Rattle.scales.specs.declared.suppliers.Suppliers.{Suppliers}
 use Rattle.scales.specs.CodeLaws.{whole, some_up_to, up_to}
-use Rattle.scales.specs.BitSets.{bit, bit_below, bit_of_and, bit_of_or, Within, ranked, same_bits, and_within, within_and}
+use Rattle.scales.specs.BitSets.{Within, ranked, same_bits, and_within, within_and}
 
 small : (a : Suppliers) → bits a < 2 ^ 16
 small a = omega arith
@@ -29,7 +31,7 @@ inside : (a b : Suppliers) → Under suppliers a b → Within 16 (bits a) (bits 
 inside a b e = within_and 16 (bits a) (bits b) (eqb-true (bit_and (bits a) (bits b)) (bits a) e)
 
 tested : (a b : Suppliers) → Within 16 (bits a) (bits b) → Under suppliers a b
-tested a b w = eq-eqb _ _ (and_within 16 (bits a) (bits b) (small a) (small b) w)
+tested a b w = eq-eqb _ _ (and_within 16 (bits a) (bits b) (small a) w)
 
 union_bits : (a b : Suppliers) → bits (suppliers.join a b) ≡ bit_or (bits a) (bits b)
 union_bits a b = let l = or_lt 16 (bits a) (bits b) (small a) (small b) in omega arith
@@ -37,11 +39,11 @@ union_bits a b = let l = or_lt 16 (bits a) (bits b) (small a) (small b) in omega
 shared_bits : (a b : Suppliers) → bits (suppliers.meet a b) ≡ bit_and (bits a) (bits b)
 shared_bits a b = let l = and_le_l (bits a) (bits b) in omega arith
 
-union_bit : (a b : Suppliers) (k : ℕ) → bit k (bits (suppliers.join a b)) ≡ max (bit k (bits a)) (bit k (bits b))
-union_bit a b k = ap (bit k) (union_bits a b) ∙ bit_of_or k (bits a) (bits b)
+union_bit : (a b : Suppliers) (k : ℕ) → bit_at (bits (suppliers.join a b)) k ≡ max (bit_at (bits a) k) (bit_at (bits b) k)
+union_bit a b k = ap (λ n. bit_at n k) (union_bits a b) ∙ bit_at_or (bits a) (bits b) k
 
-shared_bit : (a b : Suppliers) (k : ℕ) → bit k (bits (suppliers.meet a b)) ≡ min (bit k (bits a)) (bit k (bits b))
-shared_bit a b k = ap (bit k) (shared_bits a b) ∙ bit_of_and k (bits a) (bits b)
+shared_bit : (a b : Suppliers) (k : ℕ) → bit_at (bits (suppliers.meet a b)) k ≡ min (bit_at (bits a) k) (bit_at (bits b) k)
+shared_bit a b k = ap (λ n. bit_at n k) (shared_bits a b) ∙ bit_at_and (bits a) (bits b) k
 
 all_members : (b : Suppliers) → bit_and (bits b) 65535 ≡ bits b
 all_members b = and_mask (bits b) 16 ∙ mod-eq_of_lt (small b)
@@ -55,12 +57,12 @@ level_rises a b e =
     parts = and_parts (suppliers.below a b) _ e
 
     again : bits a ≡ bits b → Under suppliers b a
-    again s = tested b a (λ k h. omega (arith, ap (bit k) s))
+    again s = tested b a (λ k h. omega (arith, ap (λ n. bit_at n k) s))
 
 pub supplier_laws : Laws suppliers
 supplier_laws = record {
   stands_same = λ a. ap set_of (omega arith);
-  reflexive = λ a b e. tested a b (λ k h. omega (arith, ap (bit k) (number a b e)));
+  reflexive = λ a b e. tested a b (λ k h. omega (arith, ap (λ n. bit_at n k) (number a b e)));
   antisymmetric = λ a b e f. ap set_of (same_bits 16 (bits a) (bits b) (small a) (small b) (inside a b e) (inside b a f));
   transitive = λ a b c e f. tested a c (λ k h. omega (arith, inside a b e k h, inside b c f k h));
   from_lowest = λ a. tested suppliers.lowest a (λ k h. omega (arith, ap (λ n. n % 2) (zero-div (2 ^ k))));
@@ -124,27 +126,27 @@ member (suc zero) q h w = omega (arith, eqb-true q 1 (w refl))
 member (suc (suc p)) q h w = absurd (omega arith)
 
 -- the digits below place k + 1: digit k, and those below k
-one_more : (n k : ℕ) → n % 2 ^ suc k ≡ bit k n * 2 ^ k + n % 2 ^ k
+one_more : (n k : ℕ) → n % 2 ^ suc k ≡ bit_at n k * 2 ^ k + n % 2 ^ k
 one_more n k = ap (λ i. n % 2 ^ i) (sym (one-add k)) ∙ mod-pow-add n 1 k
 
 counted : (a : Suppliers) (k : ℕ) → ones (bits a % 2 ^ k) ≡ tally (has a) k
 counted a zero = ap ones (lt-one (mod_below (bits a) 1 (lit< tt))) ∙ ones_digit 0 (lit< tt)
 counted a (suc k) =
-    let d = bit_below k (bits a) in
-    let c : ones (bit k (bits a) * 2 ^ k + bits a % 2 ^ k) ≡ ones (bit k (bits a)) + ones (bits a % 2 ^ k) = ones_cat k (bit k (bits a)) (bits a % 2 ^ k) (mod_below (bits a) (2 ^ k) (pow_pos k)) in
-    omega (arith, ap ones (one_more (bits a) k), c, ones_digit (bit k (bits a)) d, counted a k, one_digit (bit k (bits a)) 1 d)
+    let d = bit_at-lt (bits a) k in
+    let c : ones (bit_at (bits a) k * 2 ^ k + bits a % 2 ^ k) ≡ ones (bit_at (bits a) k) + ones (bits a % 2 ^ k) = ones_cat k (bit_at (bits a) k) (bits a % 2 ^ k) (mod_below (bits a) (2 ^ k) (pow_pos k)) in
+    omega (arith, ap ones (one_more (bits a) k), c, ones_digit (bit_at (bits a) k) d, counted a k, one_digit (bit_at (bits a) k) 1 d)
 
 summed : (a : Suppliers) (k : ℕ) → bits a % 2 ^ k ≡ coded (has a) k
 summed a zero = omega arith
 summed a (suc k) =
-    omega (arith, one_more (bits a) k, summed a k, one_digit (bit k (bits a)) (2 ^ k) (bit_below k (bits a)))
+    omega (arith, one_more (bits a) k, summed a k, one_digit (bit_at (bits a) k) (2 ^ k) (bit_at-lt (bits a) k))
 
 pub sets_are : SetsAre
 sets_are = record {
-  within = λ a b e k h. eq-eqb (bit k (bits b)) 1 (omega (arith, within_and (suc k) (bits a) (bits b) (eqb-true _ _ e) k (omega arith), eqb-true (bit k (bits a)) 1 h, bit_below k (bits b)));
-  from_members = λ a b w. tested a b (λ k h. member (bit k (bits a)) (bit k (bits b)) (bit_below k (bits a)) (w k h));
-  union = λ a b k. ap (λ d. nat_eq d 1) (union_bit a b k) ∙ or_digits (bit k (bits a)) (bit k (bits b)) (bit_below k (bits a)) (bit_below k (bits b));
-  intersection = λ a b k. ap (λ d. nat_eq d 1) (shared_bit a b k) ∙ and_digits (bit k (bits a)) (bit k (bits b)) (bit_below k (bits a)) (bit_below k (bits b));
+  within = λ a b e k h. eq-eqb (bit_at (bits b) k) 1 (omega (arith, within_and (suc k) (bits a) (bits b) (eqb-true _ _ e) k (omega arith), eqb-true (bit_at (bits a) k) 1 h, bit_at-lt (bits b) k));
+  from_members = λ a b w. tested a b (λ k h. member (bit_at (bits a) k) (bit_at (bits b) k) (bit_at-lt (bits a) k) (w k h));
+  union = λ a b k. ap (λ d. nat_eq d 1) (union_bit a b k) ∙ or_digits (bit_at (bits a) k) (bit_at (bits b) k) (bit_at-lt (bits a) k) (bit_at-lt (bits b) k);
+  intersection = λ a b k. ap (λ d. nat_eq d 1) (shared_bit a b k) ∙ and_digits (bit_at (bits a) k) (bit_at (bits b) k) (bit_at-lt (bits a) k) (bit_at-lt (bits b) k);
   members = λ a. ap ones (sym (mod-eq_of_lt (small a))) ∙ counted a 16;
   code = λ a. sym (mod-eq_of_lt (small a)) ∙ summed a 16;
 }

@@ -6,7 +6,8 @@
 --     supplier_coding     the digits are the code, so every number up to 65,535 is one
 --     tally, coded        how many of the suppliers below n pass a test, and the sum of 2 ^ k over them
 --     SetsAre             what the scale says of its members
-use Rattle.std.specs.Prelude.{◌≡◌, ℕ, zero, suc, ◌+◌, ◌/◌, ◌%◌, ◌^◌, ◌<◌, min, Bool, true, cond, ◌&&◌, ◌||◌, Some, None, ◌==◌, bit_and, bit_or, count_ones, nat_le}
+use Rattle.std.specs.Prelude.{◌≡◌, ℕ, zero, suc, ◌+◌, ◌^◌, ◌<◌, min, Bool, true, cond, ◌&&◌, ◌||◌, Some, None, ◌==◌, bit_and, bit_or, count_ones, nat_le}
+use Rattle.std.specs.Int.{bit_at}
 use Rattle.scales.specs.Meaning.{Meaning, Under}
 use Rattle.scales.specs.Codes.{Coding}
 use Rattle.scales.specs.declared.suppliers.Suppliers.{Suppliers}
@@ -18,7 +19,7 @@ abbrev pub set_of : ℕ → Suppliers
 set_of n = record { members = n }
 
 abbrev pub has : Suppliers → ℕ → Bool
-has a k = bits a / 2 ^ k % 2 == 1
+has a k = bit_at (bits a) k == 1
 
 abbrev pub suppliers : Meaning Suppliers
 suppliers = record {

@@ -17,6 +17,21 @@ pub struct Pair<A, B> {
 // How far a statement is believed, and how far it is doubted: less doubt is a higher grade.
 pub type Belief = Pair<Percent, Turned<Percent>>;
 
+impl<A: Copy, B: Copy> Pair<A, B> {
+    // What `f` makes of the first parts and `g` of the second.
+    fn part_by_part<F: Fn(A, A) -> A, G: Fn(B, B) -> B>(self, other: Self, f: F, g: G) -> Self
+        requires f_answers { F.IsAlwaysCallable f }
+        requires g_answers { G.IsAlwaysCallable g }
+        ensures first { F.post f self.first other.first result.first }
+        ensures second { G.post g self.second other.second result.second }
+    {
+        Pair {
+            first: f(self.first, other.first),
+            second: g(self.second, other.second),
+        }
+    }
+}
+
 impl<A: Short, B: Short> Scale for Pair<A, B> {
     ghost meaning = { pairs A.Scale.meaning B.Scale.meaning };
 
@@ -37,24 +52,15 @@ impl<A: Short, B: Short> Scale for Pair<A, B> {
     }
 
     fn join(self, other: Self) -> Self {
-        Pair {
-            first: self.first.join(other.first),
-            second: self.second.join(other.second),
-        }
+        self.part_by_part(other, A::join, B::join)
     }
 
     fn meet(self, other: Self) -> Self {
-        Pair {
-            first: self.first.meet(other.first),
-            second: self.second.meet(other.second),
-        }
+        self.part_by_part(other, A::meet, B::meet)
     }
 
     fn blend(self, other: Self) -> Self {
-        Pair {
-            first: self.first.blend(other.first),
-            second: self.second.blend(other.second),
-        }
+        self.part_by_part(other, A::blend, B::blend)
     }
 
     fn at_or_below(self, other: Self) -> bool {

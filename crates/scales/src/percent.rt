@@ -5,7 +5,8 @@ ghost use Rattle.scales.specs.PercentLaws.{percent_laws, percent_short_codes, pe
 
 use crate::scale::{Scale, Short, Written};
 
-// A grade from 0 to 100, held as any byte: 101 to 255 hold the grade 100 too.
+// A grade from 0 to 100, held as any byte: 101 to 255 hold the grade 100 too. So a table of bytes is a table of grades, with no invariant, and
+// equality of bytes, which a derive would give, is not equality of grades.
 #[derive(Clone, Copy, Debug)]
 pub struct Percent {
     pub value: u8,

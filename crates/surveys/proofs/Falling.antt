@@ -5,13 +5,13 @@
 --     ramp_is             all that a ramp is
 use Rattle.std.proofs.Common.{◌≡◌, ℕ, ◌+◌, ◌-◌, ◌*◌, ◌/◌, ◌<◌, ◌≤◌, min, cond, eqb, leb, ◌⊎◌, List, length, vec_items, sym, refl, ap, ◌∙◌, subst, inl, inr, add-mul, le-div_iff_mul-le, div-mul-le_self, arith}
 use native.Mathlib.Nat.{div-le_of_le-mul, lt-div-mul-add}
-use Rattle.std.proofs.lemmas.List.{get_or_past, get_or_at}
+use Rattle.std.proofs.lemmas.List.{get_or_past}
 use Rattle.std.proofs.lemmas.Bool.{cond-true, cond-false, eq-eqb, ne_eqb, le-leb, lt-leb, cases_eq, cases_lt}
 use Rattle.scales.specs.Meaning.{Under}
 use Rattle.scales.specs.Percents.{points, percent, percents}
 use Rattle.surveys.specs.Tables.{entry}
 use Rattle.surveys.specs.Ramps.{unmeasured, reached, graded}
-use Rattle.surveys.specs.Pins.{Measured, EntryIs, RampIs}
+use Rattle.surveys.specs.Pins.{Measured, RampIs}
 
 measured : (a b r : ℕ) → Measured r → graded a b r ≡ percent (reached a b r)
 measured a b r m = cond-false _ _ _ (ne_eqb r unmeasured m)
@@ -82,13 +82,6 @@ falls_is a b r s m le (inr n) =
 
 entry_beyond : {X : Type 0} (none : X) (xs : List X) (s : ℕ) → length xs < s → entry none xs s ≡ none
 entry_beyond none xs s h = cond-false _ _ _ (ne_eqb s 0 (omega arith)) ∙ get_or_past xs (s - 1) none (omega arith)
-
-pub entry_is : {X : Type 0} → EntryIs X
-entry_is = record {
-  there = λ none x before after. cond-false _ _ _ (ne_eqb (length before + 1) 0 (omega arith)) ∙ get_or_at before x after none (length before + 1 - 1) (omega arith);
-  at_0 = λ none xs. refl;
-  beyond = entry_beyond;
-}
 
 pub ramp_is : RampIs
 ramp_is = record {
