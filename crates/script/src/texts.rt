@@ -3,29 +3,13 @@ use crate::desks::Desk;
 use plaintext::{lines, push_bytes};
 use scales::Written;
 use std::alloc::{AllocError, Global};
-use text::{Layer, Place, Report, load, write};
+use text::{Place, load, write};
 
 // What a load prints, and what it tells a person besides.
 #[derive(Drop)]
 pub struct Loaded {
     pub answer: String,
     pub note: String,
-}
-
-fn layer_word(layer: Layer) -> &'static str {
-    match layer {
-        Layer::Field => "field",
-        Layer::Line => "line",
-        Layer::Board => "board",
-    }
-}
-
-fn fault_words(heap: Global, report: Report) -> Result<String, AllocError> {
-    let number = report.refusal.number();
-    let layer = layer_word(report.layer);
-    let line = report.place.line;
-    let column = report.place.column;
-    format!(in heap; "refused {number} at {layer} line {line} column {column}\n")
 }
 
 // The offending line with a mark below its column; empty where the fault stands on no line.
@@ -48,20 +32,17 @@ pub fn load_line<G: Written, V>(
 ) -> Result<Loaded, AllocError> {
     let mut answer = String::from_str(heap, "load ")?;
     push_bytes(&mut answer, path)?;
-    match load(text, &mut desk.statements, &mut desk.rules) {
+    let note = match load(text, &mut desk.statements, &mut desk.rules) {
         Ok(count) => {
             writeln!(answer, ": {count} rules")?;
-            let note = String::new(heap);
-            Ok(Loaded { answer, note })
+            String::new(heap)
         }
         Err(fault) => {
-            let report = fault.report();
-            answer.push_str(": ")?;
-            answer.push_str(fault_words(heap, report)?.as_str())?;
-            let note = marked_line(heap, text, report.place)?;
-            Ok(Loaded { answer, note })
+            writeln!(answer, ": {fault}")?;
+            marked_line(heap, text, fault.report().place)?
         }
-    }
+    };
+    Ok(Loaded { answer, note })
 }
 
 // The board as text, or why it is not written.

@@ -48,12 +48,7 @@ impl fmt::Display for Failure {
                 write!(f, "line {line}: expected {}", due(fault.expected))
             }
             Failure::Measured(ReadError::NoMemory) => write!(f, "out of memory"),
-            Failure::Load(report) => {
-                let refusal = report.refusal;
-                let line = report.place.line;
-                let column = report.place.column;
-                write!(f, "load: {refusal} at line {line} column {column}")
-            }
+            Failure::Load(report) => write!(f, "load: {} at {}", report.refusal, report.place),
             Failure::Write(refusal) => write!(f, "write: {refusal}"),
             Failure::Want(refusal) => write!(f, "want: {refusal}"),
             Failure::Finish(refusal) => write!(f, "finish: {refusal}"),
