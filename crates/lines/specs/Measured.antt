@@ -1,12 +1,12 @@
 -- What a file of measured lines says. Assumes nothing.
 --     comment word            the line is skipped: it has no word, or its first word begins with #
 --     kind line               what one line says: nothing, the shoulders, a reading, or none of these
---     Says n ends rs text o   after n lines that gave the shoulders `ends`, if any, and the readings rs, the rest of the text makes o of
---                             the file: a ramp, or a first fault and what was expected there
---     Reads text r            r is what the whole text makes; only memory may be wanting besides
+--     Says n ends rs ls o     after n lines that gave the shoulders `ends`, if any, and the readings rs, the other lines ls make o of the
+--                             file: a ramp, or a first fault and what was expected there
+--     Reads text r            r is what all lines of the text make; only memory may be wanting besides
 use Rattle.std.specs.Prelude.{◌≡◌, ℕ, ◌+◌, Bool, true, false, cond, ◌||◌, List, [], ◌∷◌, ◌++◌, length, Some, None, Ok, Err, vec_items, codes, Option, Result, ◌==◌, slice_index}
 use Rattle.std.specs.Str.{bytes_eq}
-use Rattle.plaintext.specs.Bytes.{next_line, first_word, after_word, all_blank}
+use Rattle.plaintext.specs.Bytes.{lines, first_word, after_word, all_blank}
 use Rattle.plaintext.specs.Numbers.{decimal, small}
 use Rattle.surveys.specs.declared.ramp.Ramp.{Ramp}
 use Rattle.lines.specs.declared.measured.Line.{Line}
@@ -72,13 +72,13 @@ readings_after rs (Shoulders near far) = rs
 readings_after rs (Reading r) = rs ++ r ∷ []
 readings_after rs Other = rs
 
-pub data Says : ℕ → Option (ℕ × ℕ) → List ℕ → List ℕ → Outcome → Type 0 where
-  ends : {n near far : ℕ} {rs text : List ℕ} → next_line text ≡ None → Says n (Some (near, far)) rs text (ramp near far rs)
-  no_shoulders : {n : ℕ} {rs text : List ℕ} → next_line text ≡ None → Says n None rs text (fault (n + 1) expected.Shoulders)
-  goes_on : {n : ℕ} {e : Option (ℕ × ℕ)} {rs text line rest : List ℕ} {o : Outcome} → next_line text ≡ Some (line, rest) → fits e (kind line) ≡ true → Says (n + 1) (ends_after e (kind line)) (readings_after rs (kind line)) rest o → Says n e rs text o
-  fails : {n : ℕ} {e : Option (ℕ × ℕ)} {rs text line rest : List ℕ} → next_line text ≡ Some (line, rest) → fits e (kind line) ≡ false → Says n e rs text (fault (n + 1) (due e))
+pub data Says : ℕ → Option (ℕ × ℕ) → List ℕ → List (List ℕ) → Outcome → Type 0 where
+  ends : {n near far : ℕ} {rs : List ℕ} → Says n (Some (near, far)) rs [] (ramp near far rs)
+  no_shoulders : {n : ℕ} {rs : List ℕ} → Says n None rs [] (fault (n + 1) expected.Shoulders)
+  goes_on : {n : ℕ} {e : Option (ℕ × ℕ)} {rs line : List ℕ} {rest : List (List ℕ)} {o : Outcome} → fits e (kind line) ≡ true → Says (n + 1) (ends_after e (kind line)) (readings_after rs (kind line)) rest o → Says n e rs (line ∷ rest) o
+  fails : {n : ℕ} {e : Option (ℕ × ℕ)} {rs line : List ℕ} {rest : List (List ℕ)} → fits e (kind line) ≡ false → Says n e rs (line ∷ rest) (fault (n + 1) (due e))
 
 abbrev pub Reads : List ℕ → Result Ramp ReadError → Type 0
-Reads text (Ok t) = Says 0 None [] text (ramp t.near t.far (vec_items t.readings))
-Reads text (Err (Bad f)) = Says 0 None [] text (fault f.line f.expected)
+Reads text (Ok t) = Says 0 None [] (lines text) (ramp t.near t.far (vec_items t.readings))
+Reads text (Err (Bad f)) = Says 0 None [] (lines text) (fault f.line f.expected)
 Reads text (Err NoMemory) = Unit {0}

@@ -1,10 +1,13 @@
 // Reading a file of measured lines.
-ghost use Rattle.std.specs.Prelude.{◌≡◌, OnOk};
+ghost use Rattle.std.specs.Prelude.{◌≡◌, OnOk, length};
+ghost use Rattle.plaintext.specs.Bytes.{lines};
 ghost use Rattle.lines.specs.declared.measured.ReadError.TheVariants.{NoMemory};
 ghost use Rattle.lines.specs.Measured.{Reads, due as due_after, ends_after as ends_of, fits as fits_after, kind, reading_of, readings_after, shoulders_of};
 
-use plaintext::{is_blank, next_line, next_word, same_word, small_number};
-use std::alloc::{AllocError, AllocFailed, Global};
+use plaintext::{is_blank, lines, next_word, same_word, small_number};
+use std::alloc::{AllocFailed, Global};
+use std::error::Error;
+use std::fmt;
 use surveys::Ramp;
 
 // What a line of the file says.
@@ -17,17 +20,34 @@ pub enum Line {
 }
 
 // What should have stood where a fault is.
-#[derive(Clone, Copy, Debug, PartialEq)]
+#[derive(Clone, Copy, Debug, PartialEq, Eq)]
 pub enum Expected {
     Shoulders,
     Reading,
 }
 
+impl fmt::Display for Expected {
+    fn fmt<W: fmt::Write>(&self, f: &mut fmt::Formatter<W>) -> fmt::Result {
+        f.write_str(match self {
+            Expected::Shoulders => "`ramp NEAR FAR`, two numbers up to 65535",
+            Expected::Reading => "one reading, a number up to 65535",
+        })
+    }
+}
+
 // The first line, counted from 1, that is not as it should be; past the last where the file has no shoulders.
-#[derive(Clone, Copy, Debug, PartialEq)]
+#[derive(Clone, Copy, Debug, PartialEq, Eq)]
 pub struct Fault {
     pub line: usize,
     pub expected: Expected,
+}
+
+impl fmt::Display for Fault {
+    fn fmt<W: fmt::Write>(&self, f: &mut fmt::Formatter<W>) -> fmt::Result {
+        let line = self.line;
+        let due = self.expected;
+        write!(f, "line {line}: expected {due}")
+    }
 }
 
 #[derive(Debug, Drop)]
@@ -35,6 +55,17 @@ pub enum ReadError {
     Bad(Fault),
     NoMemory,
 }
+
+impl fmt::Display for ReadError {
+    fn fmt<W: fmt::Write>(&self, f: &mut fmt::Formatter<W>) -> fmt::Result {
+        match self {
+            ReadError::Bad(fault) => write!(f, "{fault}"),
+            ReadError::NoMemory => f.write_str("out of memory"),
+        }
+    }
+}
+
+impl Error for ReadError {}
 
 impl<T: Drop> From<AllocFailed<T>> for ReadError {
     ghost from_gives = { λ _ r. r ≡ NoMemory };
@@ -117,26 +148,28 @@ fn note(readings: &mut Vec<u16>, line: Line) -> Result<(), AllocFailed<u16>>
     }
 }
 
+fn line_count(text: &[u8]) -> usize
+    ensures { result ≡ length (lines text.now) }
+{
+    lines(text).count()
+}
+
 // The ramp that the text spells, or its first fault.
 pub fn read_lines(heap: Global, text: &[u8]) -> Result<Ramp, ReadError>
     ensures { Reads text.now result }
 {
-    let mut rest = text;
-    let mut number = 0;
     let mut ends = None;
     let mut readings = Vec::new(heap);
-    while let Some((bytes, after)) = next_line(rest) {
+    for (i, bytes) in lines(text).enumerate() {
         let line = classify(bytes);
-        number += 1;
         if !fits(ends, line) {
             return Err(ReadError::Bad(Fault {
-                line: number,
+                line: i + 1,
                 expected: due(ends),
             }));
         }
         note(&mut readings, line)?;
         ends = ends_after(ends, line);
-        rest = after;
     }
     match ends {
         Some((near, far)) => Ok(Ramp {
@@ -145,7 +178,7 @@ pub fn read_lines(heap: Global, text: &[u8]) -> Result<Ramp, ReadError>
             far,
         }),
         None => Err(ReadError::Bad(Fault {
-            line: number + 1,
+            line: line_count(text) + 1,
             expected: Expected::Shoulders,
         })),
     }

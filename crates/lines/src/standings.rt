@@ -1,10 +1,10 @@
 // How the lines of a ramp stand: unmeasured, at 100, at 0 or in between.
 ghost use Rattle.std.specs.Prelude.{◌≡◌};
-ghost use Rattle.lines.specs.Standings.{count as count_of, same as same_standing, standing};
+ghost use Rattle.lines.specs.Standings.{count as count_of, standing, stands as stands_so};
 
 use surveys::{Ramp, UNMEASURED};
 
-#[derive(Clone, Copy)]
+#[derive(Clone, Copy, Debug, PartialEq, Eq)]
 pub enum Standing {
     Unmeasured,
     Full,
@@ -25,27 +25,18 @@ pub fn standing_of(ramp: &Ramp, reading: u16) -> Standing
     }
 }
 
-fn same(a: Standing, b: Standing) -> bool
-    ensures { result ≡ same_standing a b }
+fn stands(ramp: &Ramp, sought: Standing, reading: u16) -> bool
+    ensures { result ≡ stands_so ramp.now sought reading }
 {
-    match (a, b) {
-        (Standing::Unmeasured, Standing::Unmeasured) => true,
-        (Standing::Full, Standing::Full) => true,
-        (Standing::Zero, Standing::Zero) => true,
-        (Standing::Between, Standing::Between) => true,
-        _ => false,
-    }
+    standing_of(ramp, reading) == sought
 }
 
 // How many lines stand so.
 pub fn count(ramp: &Ramp, sought: Standing) -> usize
     ensures { result ≡ count_of ramp.now sought }
 {
-    let mut n = 0;
-    for reading in ramp.readings.as_slice() {
-        if same(standing_of(ramp, *reading), sought) {
-            n += 1;
-        }
-    }
-    n
+    ramp.readings
+        .iter()
+        .filter(|reading| stands(ramp, sought, **reading))
+        .count()
 }

@@ -1,5 +1,5 @@
 -- The list of all lines, or of all words, is the first and then those of what follows it. Assumes nothing.
-use Rattle.std.proofs.Common.{rules, one-add, add-one, ◌≡◌, ℕ, ◌+◌, Bool, true, false, cond, not, List, [], ◌∷◌, length, take, drop, filter, Some, None, Option, refl, sym, ap, ◌∙◌}
+use Rattle.std.proofs.Common.{rules, ◌≤◌, one-add, add-one, ◌≡◌, ℕ, ◌+◌, Bool, true, false, cond, not, List, [], ◌∷◌, length, take, drop, filter, Some, None, Option, refl, sym, ap, ◌∙◌}
 use Rattle.std.specs.Prelude.{◌==◌}
 use Rattle.std.specs.List.{prefix_len, onto_first, slice_split}
 use Rattle.plaintext.specs.Bytes.{in_line, next_line, lines, blank, in_word, from_word, first_word, next_word, words}
@@ -79,3 +79,16 @@ word_then line word after is =
     let s = from_word line in let p = first_part s in
     let q = parted (length (first_word line) == 0) _ _ word after is in
     sym (unblanked line) ∙ ap whole p.parts ∙ rw q.0 (rw (q.1, ← q.2) (ap (λ ws. word ∷ ws) p.rest))
+
+more_line : (b : ℕ) (ls : List (List ℕ)) (n : ℕ) → length ls ≤ n → length (onto_first b ls) ≤ n + 1
+more_line b [] n h = search rules
+more_line b (l ∷ ls) n h = search rules
+
+fits_from : (v : Bool) (b : ℕ) (bs : List ℕ) → length (lines bs) ≤ length bs → length (cond v (onto_first b (lines bs)) ([] ∷ lines bs)) ≤ length bs + 1
+fits_from true b bs h = more_line b (lines bs) (length bs) h
+fits_from false b bs h = search rules
+
+-- a text has no more lines than bytes
+pub lines_fit : (text : List ℕ) → length (lines text) ≤ length text
+lines_fit [] = search rules
+lines_fit (b ∷ bs) = let h = fits_from (in_line b) b bs (lines_fit bs) in search rules

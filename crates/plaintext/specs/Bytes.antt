@@ -10,7 +10,7 @@
 --     words line          all words: what stands between two blank bytes, where that is not empty
 --     all_blank line      there is no word
 --     Cuts r o            the lent parts r of a text are the lists o
---     Gives next t r u    r is the first part of the text t by `next`, and u what follows it; where there is none, u is t
+--     GivesWord l r m     r is the first word of the line l, and m follows it; where there is none, m is l
 use Rattle.std.specs.Prelude.{◌≡◌, ℕ, ◌+◌, Bool, cond, not, ◌||◌, List, [], ◌∷◌, length, take, drop, filter, Some, None, Option, MatchOption, ◌==◌}
 use Rattle.std.specs.Borrow.{Bor}
 use Rattle.std.specs.Option.{option_map}
@@ -53,5 +53,5 @@ all_blank line = prefix_len blank line == length line
 abbrev pub Cuts : Option (Bor (List ℕ) × Bor (List ℕ)) → Option (List ℕ × List ℕ) → Type 0
 Cuts r o = option_map (λ x. (x.0.now, x.1.now)) r ≡ o
 
-abbrev pub Gives : (List ℕ → Option (List ℕ × List ℕ)) → List ℕ → Option (Bor (List ℕ)) → List ℕ → Type 0
-Gives next text r after = MatchOption r ((next text ≡ None) × (after ≡ text)) (λ x. next text ≡ Some (x.now, after))
+abbrev pub GivesWord : List ℕ → Option (Bor (List ℕ)) → List ℕ → Type 0
+GivesWord line r after = MatchOption r ((next_word line ≡ None) × (after ≡ line)) (λ w. next_word line ≡ Some (w.now, after))

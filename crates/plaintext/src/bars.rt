@@ -19,9 +19,5 @@ fn filled(level: u16, height: u16) -> u32
 pub fn bar(heap: Global, level: u16, height: u16) -> Result<String, AllocError>
     ensures { IfOk result (λ s. string_bytes s ≡ replicate (filled_of level height) 35) }
 {
-    let mut text = String::new(heap);
-    for _mark in 0..filled(level, height) {
-        text.push('#')?;
-    }
-    Ok(text)
+    "#".repeat(heap, filled(level, height) as usize)
 }

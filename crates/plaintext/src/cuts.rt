@@ -1,13 +1,14 @@
 // Lines and words at the front of a text.
 ghost use Rattle.std.specs.Prelude.{◌≡◌, ◌+◌, ◌<◌, ◌≤◌, length, IfSome};
 ghost use Rattle.std.specs.Str.{bytes_eq};
-ghost use Rattle.plaintext.specs.Bytes.{Cuts, all_blank, after_word, first_word, next_line, next_word};
+ghost use Rattle.plaintext.specs.Bytes.{Cuts, all_blank, after_word, first_word, lines, next_line, next_word};
 
 use crate::classes::{blank_len, line_len, word_len};
 use crate::iters::{Lines, Words};
 
 pub fn lines(text: &[u8]) -> Lines<'_>
-    ensures { result ≡ text.now }
+    ensures all { result ≡ text.now }
+    ensures bound { length (lines text.now) ≤ length text.now }
 {
     Lines { rest: text }
 }

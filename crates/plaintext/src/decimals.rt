@@ -8,10 +8,7 @@ const TOP: u32 = 65536;
 fn digit(byte: u8) -> Option<u32>
     ensures { result ≡ digit_of byte }
 {
-    match byte {
-        b'0'..=b'9' => Some((byte - b'0') as u32),
-        _ => None,
-    }
+    char::from(byte).to_digit(10)
 }
 
 // The number that the digits of `word` spell, up to 65,536; none where a byte is no digit or there is none.
@@ -21,6 +18,7 @@ pub fn number(word: &[u8]) -> Option<u32>
     if word.is_empty() {
         return None;
     }
+    // a loop and no try_fold: that the next sum fits is known only of the value so far, which is the invariant
     let mut value = 0;
     for byte in word {
         value = TOP.min(10 * value + digit(*byte)?);
@@ -32,10 +30,5 @@ pub fn number(word: &[u8]) -> Option<u32>
 pub fn small_number(word: &[u8]) -> Option<u16>
     ensures { result ≡ small (decimal word.now) }
 {
-    let value = number(word)?;
-    if value < TOP {
-        Some(value as u16)
-    } else {
-        None
-    }
+    number(word).and_then(|value| u16::try_from(value).ok())
 }

@@ -1,7 +1,7 @@
 // The lines of a text and the words of a line, one after another. In a clause either is the text that it has left.
 ghost use Rattle.std.specs.Prelude.{◌≡◌, ℕ, List};
 ghost use Rattle.std.specs.Iterator.{YieldsFirstRef, item_count};
-ghost use Rattle.plaintext.specs.Bytes.{Gives, lines, next_line, next_word, words};
+ghost use Rattle.plaintext.specs.Bytes.{GivesWord, lines, words};
 
 use crate::cuts::{next_line, some_word};
 use std::marker::Model;
@@ -21,7 +21,7 @@ impl<'a> Model for Lines<'a> {
 impl<'a> Iterator for Lines<'a> {
     type Item = &'a [u8];
 
-    ghost next_gives = { λ s r t. YieldsFirstRef lines s r t × Gives next_line s r t };
+    ghost next_gives = { YieldsFirstRef lines };
 
     ghost remaining = { item_count lines };
 
@@ -56,7 +56,7 @@ impl<'a> Words<'a> {
 impl<'a> Iterator for Words<'a> {
     type Item = &'a [u8];
 
-    ghost next_gives = { λ s r t. YieldsFirstRef words s r t × Gives next_word s r t };
+    ghost next_gives = { λ s r t. YieldsFirstRef words s r t × GivesWord s r t };
 
     ghost remaining = { item_count words };
 

@@ -1,5 +1,6 @@
 // A line of a script to the call that it spells.
-ghost use Rattle.std.specs.Prelude.{◌≡◌};
+ghost use Rattle.std.specs.Prelude.{◌≡◌, MatchResult};
+ghost use Rattle.plaintext.specs.Bytes.{after_word};
 ghost use Rattle.spelling.specs.Spelled.{added, body as body_of, bodies as bodies_of, spelled};
 
 use crate::fields::{Expected, end, form_field, grade_field, number_field, only_number};
@@ -8,28 +9,24 @@ use pasts::Call;
 use plaintext::{is_blank, next_word, same_word};
 use scales::Written;
 
-// The first body of the line, absent where the line is blank.
-fn body(line: &[u8]) -> Result<u16, Expected>
-    ensures { result ≡ body_of line.now }
+// The first body of the line and what follows it; absent where the line is blank.
+fn body(line: &[u8]) -> Result<(u16, &[u8]), Expected>
+    ensures { MatchResult result (λ x. (body_of line.now ≡ Ok x.0) × (x.1.now ≡ after_word line.now)) (λ e. body_of line.now ≡ Err e) }
 {
+    let (word, rest) = next_word(line);
     if is_blank(line) {
-        return Ok(0);
+        return Ok((0, rest));
     }
-    let (word, _) = next_word(line);
-    number_field(word)
+    Ok((number_field(word)?, rest))
 }
 
 fn bodies(line: &[u8]) -> Result<[u16; 4], Expected>
     ensures { result ≡ bodies_of line.now }
 {
-    let a = body(line)?;
-    let (_, rest) = next_word(line);
-    let b = body(rest)?;
-    let (_, rest) = next_word(rest);
-    let c = body(rest)?;
-    let (_, rest) = next_word(rest);
-    let d = body(rest)?;
-    let (_, rest) = next_word(rest);
+    let (a, rest) = body(line)?;
+    let (b, rest) = body(rest)?;
+    let (c, rest) = body(rest)?;
+    let (d, rest) = body(rest)?;
     if is_blank(rest) {
         Ok([a, b, c, d])
     } else {
@@ -62,6 +59,7 @@ fn add_of<G: Written>(line: &[u8]) -> Result<Call<G>, Expected>
 pub fn spelled_call<G: Written>(verb: &[u8], rest: &[u8]) -> Result<Call<G>, Expected>
     ensures { result ≡ spelled G.Written.coding verb.now rest.now }
 {
+    // a match on byte strings left the goals of all arms open: what it tests byte by byte is not joined to bytes_eq
     if same_word(verb, b"add") {
         add_of(rest)
     } else if same_word(verb, b"withdraw") {

@@ -5,9 +5,10 @@ ghost use Rattle.spelling.specs.Fields.{end as end_of, form as form_of, grade as
 use model::Form;
 use plaintext::{is_blank, next_word, number, small_number};
 use scales::Written;
+use std::fmt;
 
 // What should have stood on a line that is malformed.
-#[derive(Clone, Copy, Debug, PartialEq)]
+#[derive(Clone, Copy, Debug, PartialEq, Eq)]
 pub enum Expected {
     LineEnd,
     Number,
@@ -22,9 +23,9 @@ pub enum Expected {
     NoRamp,
 }
 
-impl Expected {
-    pub fn words(self) -> &'static str {
-        match self {
+impl fmt::Display for Expected {
+    fn fmt<W: fmt::Write>(&self, f: &mut fmt::Formatter<W>) -> fmt::Result {
+        f.write_str(match self {
             Expected::LineEnd => "the end of the line",
             Expected::Number => "a decimal number",
             Expected::Reading => "a number up to 65535",
@@ -38,7 +39,7 @@ impl Expected {
             Expected::ScaleName => "a scale: percent, verdict, suppliers or belief",
             Expected::SurveyPart => "`listed`, `ramp` or the end of the line",
             Expected::NoRamp => "no ramp, since only percent has one",
-        }
+        })
     }
 }
 
@@ -56,16 +57,8 @@ pub fn end(line: &[u8]) -> Result<(), Expected>
 pub fn number_field(word: &[u8]) -> Result<u16, Expected>
     ensures { result ≡ number_to_limit word.now }
 {
-    match number(word) {
-        Some(n) => {
-            if n < 65536 {
-                Ok(n as u16)
-            } else {
-                Ok(u16::MAX)
-            }
-        }
-        None => Err(Expected::Number),
-    }
+    let n = number(word).ok_or(Expected::Number)?;
+    Ok(u16::try_from(n).unwrap_or(u16::MAX))
 }
 
 pub fn only_number(line: &[u8]) -> Result<u16, Expected>
@@ -79,32 +72,21 @@ pub fn only_number(line: &[u8]) -> Result<u16, Expected>
 pub fn reading_field(word: &[u8]) -> Result<u16, Expected>
     ensures { result ≡ reading_of word.now }
 {
-    match small_number(word) {
-        Some(reading) => Ok(reading),
-        None => Err(Expected::Reading),
-    }
+    small_number(word).ok_or(Expected::Reading)
 }
 
 pub fn grade_field<G: Written>(word: &[u8]) -> Result<G, Expected>
     ensures { result ≡ grade_of G.Written.coding word.now }
 {
-    match small_number(word) {
-        Some(code) => match G::decode(code) {
-            Some(grade) => Ok(grade),
-            None => Err(Expected::GradeCode),
-        },
-        None => Err(Expected::GradeCode),
-    }
+    let code = small_number(word).ok_or(Expected::GradeCode)?;
+    G::decode(code).ok_or(Expected::GradeCode)
 }
 
 pub fn form_field(word: &[u8]) -> Result<Form, Expected>
     ensures { result ≡ form_of word.now }
 {
-    if word.len() != 1 {
+    let [letter] = word else {
         return Err(Expected::FormLetter);
-    }
-    match Form::from_letter(word[0] as char) {
-        Some(form) => Ok(form),
-        None => Err(Expected::FormLetter),
-    }
+    };
+    Form::from_letter(char::from(*letter)).ok_or(Expected::FormLetter)
 }

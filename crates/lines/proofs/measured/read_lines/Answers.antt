@@ -1,19 +1,26 @@
-use Rattle.std.proofs.Common.{arith}
+use Rattle.std.proofs.Common.{rules, arith, ◌≡◌, ◌+◌, length, ap, inl}
+use Rattle.std.specs.Iterator.Adapters.{enumerate_count, enumerate_source}
+use Rattle.plaintext.specs.Bytes.{lines}
 use Rattle.lines.proofs.Following.{went_on, failed, ended, bare_end}
 use Rattle.lines.proofs.measured.read_lines.Goals as goal
 
 pub returns-then-not-fits : goal.returns-then-not-fits
 returns-then-not-fits c =
-    c.loop-bytes.invariant.1 _ (failed c.classify-line.result c.in-Some.ensures.parts c.classify-line.ensures c.due.result c.if-not-fits.ensures c.due.ensures)
+    let s = c.in-Some.ensures.steps in
+    c.loop-i.invariant.3 _ (rw s.1 (failed c.classify-line.result s.0 c.classify-line.ensures c.due.result c.if-not-fits.ensures c.due.ensures))
 
-pub loop-bytes-preserved : goal.loop-bytes-preserved
-loop-bytes-preserved c = (
-  omega (arith, c.in-Some.ensures.shorter, c.loop-bytes.invariant.0),
-  λ o h. c.loop-bytes.invariant.1 o (went_on c.classify-line.result c.in-Some.ensures.parts c.classify-line.ensures _ _ o c.if-not-fits.ensures c.ends_after-ends.ensures c.in_ok-note.ensures h),
-)
+pub loop-i-preserved : goal.loop-i-preserved
+loop-i-preserved c =
+    let s = c.in-Some.ensures.steps in
+    let one : length (lines (enumerate_source c.loop-i.i-iterator)) ≡ length (lines (enumerate_source c.next.new.self)) + 1 = search rules in
+    let all : enumerate_count c.next.new.self + length (lines (enumerate_source c.next.new.self)) ≡ length (lines c.args.text.now) = omega (arith, s.2, c.loop-i.invariant.2) in
+    ((tt, tt, inl (search rules)), tt, all, λ o says. c.loop-i.invariant.3 o (went_on c.classify-line.result s.0 c.classify-line.ensures _ _ o c.if-not-fits.ensures c.ends_after-ends.ensures c.in_ok-note.ensures (rw s.2 at says)))
 
 pub returns-in-Some-ends : goal.returns-in-Some-ends
-returns-in-Some-ends c = c.loop-bytes.invariant.1 _ (ended c.loop-bytes.ends c.in_default.ensures.parts _ _ c.in-Some-ends.is)
+returns-in-Some-ends c = c.loop-i.invariant.3 _ (ended c.loop-i.ends c.in-None.ensures.steps.0.0 _ _ c.in-Some-ends.is)
 
-pub returns-in-None : goal.returns-in-None
-returns-in-None c = c.loop-bytes.invariant.1 _ (bare_end c.loop-bytes.ends c.in_default.ensures.parts c.in-None.is)
+pub returns-in-None-ends : goal.returns-in-None-ends
+returns-in-None-ends c =
+    let left : length (lines (enumerate_source c.loop-i.i-iterator)) ≡ 0 = ap length c.in-None.ensures.steps.0.0 in
+    let e : c.line_count.result ≡ enumerate_count c.loop-i.i-iterator = omega (arith, c.loop-i.invariant.2, c.line_count.ensures) in
+    rw e (c.loop-i.invariant.3 _ (bare_end c.loop-i.ends c.in-None.ensures.steps.0.0 c.in-None-ends.is))

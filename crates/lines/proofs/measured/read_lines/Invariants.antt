@@ -1,11 +1,12 @@
-use Rattle.std.proofs.Common.{◌+◌, ◌≤◌, [], length, None, vec_items}
+use Rattle.std.proofs.Common.{◌≡◌, ◌+◌, [], length, None, vec_items}
+use Rattle.std.specs.Iterator.Adapters.{enumerate_count, enumerate_source}
+use Rattle.plaintext.specs.Bytes.{lines}
 use Rattle.lines.specs.Measured.{Outcome, Says}
 use Rattle.lines.proofs.measured.read_lines.Given as goal
 
--- what the rest makes of the file is what the whole text does; no more lines than bytes are behind
-abbrev pub invariant-loop-bytes : goal.invariant-loop-bytes
-invariant-loop-bytes l =
-    (l.number + length l.rest ≤ length l.text) × ((o : Outcome) → Says l.number l.ends (vec_items l.readings) l.rest o → Says 0 None [] l.text o)
-
-abbrev pub decreases-loop-bytes : goal.decreases-loop-bytes
-decreases-loop-bytes l = length l.rest
+-- the lines behind and the rest are all of the text's; what the rest makes of the file is what the whole text does
+abbrev pub invariant-loop-i : goal.invariant-loop-i
+invariant-loop-i l =
+    (goal.iterator-loop-i).can_next l.i-iterator × (goal.iterator-loop-i).is_finite l.i-iterator
+    × (enumerate_count l.i-iterator + length (lines (enumerate_source l.i-iterator)) ≡ length (lines l.text))
+    × ((o : Outcome) → Says (enumerate_count l.i-iterator) l.ends (vec_items l.readings) (lines (enumerate_source l.i-iterator)) o → Says 0 None [] (lines l.text) o)
