@@ -43,6 +43,16 @@ impl<G: Scale, V: Survey<Grade = G> + Drop> Desk<G, V> {
     }
 }
 
+impl<G: Scale, V: Survey<Grade = G>> Desk<G, V> {
+    // Performs one call on the board.
+    pub fn call(&mut self, call: &Call<G>) -> Answer<G>
+        ensures outcome { Outcome G.Scale.meaning (V.Survey.degrees self.old.survey) call.now (tables self.old.statements.items self.old.rules.items) result (tables self.new.statements.items self.new.rules.items) }
+        ensures survey { self.new.survey ≡ self.old.survey }
+    {
+        perform(&self.survey, &mut self.statements, &mut self.rules, call)
+    }
+}
+
 impl<G, V> Desk<G, V> {
     // How many statements are still to be evaluated.
     pub fn waiting(&self) -> usize
@@ -60,14 +70,4 @@ fn copies<T: Copy>(heap: Global, item: T, len: usize) -> Result<Vec<T>, AllocErr
     ensures { IfOk result (λ v. v.items ≡ replicate len item) }
 {
     (0..len).map(|_| item).collect(heap)
-}
-
-impl<G: Scale, V: Survey<Grade = G>> Desk<G, V> {
-    // Performs one call on the board.
-    pub fn call(&mut self, call: &Call<G>) -> Answer<G>
-        ensures outcome { Outcome G.Scale.meaning (V.Survey.degrees self.old.survey) call.now (tables self.old.statements.items self.old.rules.items) result (tables self.new.statements.items self.new.rules.items) }
-        ensures survey { self.new.survey ≡ self.old.survey }
-    {
-        perform(&self.survey, &mut self.statements, &mut self.rules, call)
-    }
 }

@@ -6,45 +6,37 @@ use plaintext::bar;
 use scales::Written;
 use std::alloc::{AllocError, Global};
 
-fn push_statement<G: Written>(
+fn push_statements<G: Written>(
     text: &mut String,
-    number: usize,
-    statement: &Statement<G>,
+    statements: &[Statement<G>],
 ) -> Result<(), AllocError> {
-    let code = statement.grade.code();
-    let mark = statement.mark;
-    writeln!(text, "s {number} {code} {mark}")
+    for (number, statement) in (1usize..).zip(statements.iter()) {
+        let code = statement.grade.code();
+        let mark = statement.mark;
+        writeln!(text, "s {number} {code} {mark}")?;
+    }
+    Ok(())
 }
 
-fn push_rule<G: Written>(text: &mut String, mark: usize, rule: &Rule<G>) -> Result<(), AllocError> {
-    let head = rule.head;
-    let form = rule.form.letter() as char;
-    let weight = rule.weight.code();
-    let [a, b, c, d] = rule.bodies;
-    writeln!(text, "p {mark} {head} {form} {weight} {a} {b} {c} {d}")
-}
-
-fn push_grade<G: Written>(
-    text: &mut String,
-    number: usize,
-    statement: &Statement<G>,
-) -> Result<(), AllocError> {
-    let code = statement.grade.code();
-    let mark = bar(*text.allocator(), statement.grade.level(), G::height())?;
-    writeln!(text, "{number:>5} {code:>6} |{mark:<20}|")
+// Blank places are left out.
+fn push_rules<G: Written>(text: &mut String, rules: &[Rule<G>]) -> Result<(), AllocError> {
+    for (mark, rule) in (1usize..).zip(rules.iter()) {
+        if rule.head != 0 {
+            let head = rule.head;
+            let form = rule.form.letter() as char;
+            let weight = rule.weight.code();
+            let [a, b, c, d] = rule.bodies;
+            writeln!(text, "p {mark} {head} {form} {weight} {a} {b} {c} {d}")?;
+        }
+    }
+    Ok(())
 }
 
 // A line for each statement, then one for each place that is not blank.
 pub fn tables<G: Written, V>(heap: Global, desk: &Desk<G, V>) -> Result<String, AllocError> {
     let mut text = String::new(heap);
-    for (number, statement) in (1usize..).zip(desk.statements.iter()) {
-        push_statement(&mut text, number, statement)?;
-    }
-    for (mark, rule) in (1usize..).zip(desk.rules.iter()) {
-        if rule.head != 0 {
-            push_rule(&mut text, mark, rule)?;
-        }
-    }
+    push_statements(&mut text, &desk.statements)?;
+    push_rules(&mut text, &desk.rules)?;
     Ok(text)
 }
 
@@ -53,7 +45,10 @@ pub fn grades<G: Written, V>(heap: Global, desk: &Desk<G, V>) -> Result<String, 
     let mut text = String::new(heap);
     for (number, statement) in (1usize..).zip(desk.statements.iter()) {
         if statement.mark.is_open() {
-            push_grade(&mut text, number, statement)?;
+            let grade = statement.grade;
+            let code = grade.code();
+            let mark = bar(heap, grade.level(), G::height())?;
+            writeln!(text, "{number:>5} {code:>6} |{mark:<20}|")?;
         }
     }
     match desk.waiting() {

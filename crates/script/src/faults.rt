@@ -5,7 +5,7 @@ use std::error::Error;
 use std::fmt;
 
 // The line is malformed, or memory is wanting.
-#[derive(Clone, Copy, Debug, PartialEq)]
+#[derive(Clone, Copy, Debug, PartialEq, Eq)]
 pub enum ScriptError {
     Malformed(Expected),
     NoMemory,
@@ -14,7 +14,7 @@ pub enum ScriptError {
 impl fmt::Display for ScriptError {
     fn fmt<W: fmt::Write>(&self, f: &mut fmt::Formatter<W>) -> fmt::Result {
         match self {
-            ScriptError::Malformed(due) => write!(f, "expected {}", due.words()),
+            ScriptError::Malformed(due) => write!(f, "expected {due}"),
             ScriptError::NoMemory => write!(f, "out of memory"),
         }
     }

@@ -21,7 +21,7 @@ pub enum Script {
     Belief(Desk<Belief, Listed<Belief>>),
 }
 
-// The same work on the desk of each scale, whose types differ.
+// The same work on the desk of each scale. Their types differ, and no closure is generic over them.
 macro_rules! on_board {
     ($script:expr, $desk:ident => $work:expr) => {
         match $script {

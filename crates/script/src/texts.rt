@@ -51,8 +51,9 @@ pub fn write_line<G: Written, V>(heap: Global, desk: &Desk<G, V>) -> Result<Stri
     let mut buffer = vec![in heap; 0u8; room]?;
     match write(&desk.statements, &desk.rules, &mut buffer) {
         Ok(len) => {
+            buffer.truncate(len);
             let mut text = String::new(heap);
-            push_bytes(&mut text, buffer.get(0..len).unwrap_or(&[]))?;
+            push_bytes(&mut text, &buffer)?;
             Ok(text)
         }
         Err(refusal) => format!(in heap; "write: {refusal}\n"),
