@@ -10,7 +10,7 @@ use std::num::NonZeroU16;
 use surveys::Listed;
 use text::{load, write};
 
-// What is timed: a finish, a load and a write, or a withdraw.
+// What is timed: a finish, a load and a write, or a withdraw. No closure in its place could serve every scale.
 #[derive(Clone, Copy)]
 pub(crate) enum Benchmark {
     Finish,
