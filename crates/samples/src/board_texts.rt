@@ -26,19 +26,15 @@ fn rule(head: u16, body: u16) -> Rule<Percent> {
 fn texts_cut_short(rt: HostRuntime) -> Result<(), Fail> {
     let text: &[u8] =
         b"B    2    2\nR    1    1A   90    2    0    0    0\nR    2    2L   70    0    0    0    0\n";
-    let mut statements = Vec::new(rt.alloc());
-    let mut rules = Vec::new(rt.alloc());
-    for _k in 0..2 {
-        statements.push(statement(7))?;
-        rules.push(rule(2, 1))?;
-    }
+    let mut statements = vec![in rt.alloc(); statement(7); 2]?;
+    let mut rules = vec![in rt.alloc(); rule(2, 1); 2]?;
     for cut in 0..text.len() {
         let due = if cut < 12 { 1 } else { (cut - 12) / 38 + 2 };
         let part = text.get(0..cut).ok_or("a part of the text")?;
-        let Err(fault) = load(part, &mut statements, &mut rules) else {
-            return Err(Fail::new("a text that is cut short is refused"));
-        };
-        let report = fault.report();
+        let report = load(part, &mut statements, &mut rules)
+            .err()
+            .ok_or("a text that is cut short is refused")?
+            .report();
         assert_eq!(rt; report.refusal.number(), 10);
         assert_eq!(rt; report.place.line, due);
         assert_eq!(rt; report.place.column, 1);
@@ -57,26 +53,16 @@ fn texts_cut_short(rt: HostRuntime) -> Result<(), Fail> {
 #[test]
 fn the_longest_text(rt: HostRuntime) -> Result<(), Fail> {
     let heap = rt.alloc();
-    let mut statements = Vec::new(heap);
-    for _s in 0..1024 {
-        statements.push(statement(0))?;
-    }
-    let mut rules = Vec::new(heap);
-    for k in 0..4096u16 {
-        rules.push(rule(k % 1024 + 1, k % 7))?;
-    }
-    let mut buffer = Vec::new(heap);
-    for _b in 0..155660 {
-        buffer.push(0u8)?;
-    }
+    let mut statements = vec![in heap; statement(0); 1024]?;
+    let rules: Vec<Rule<Percent>> = (0..4096u16)
+        .map(|k| rule(k % 1024 + 1, k % 7))
+        .collect(heap)?;
+    let mut buffer = vec![in heap; 0u8; 155660]?;
     assert_eq!(rt;
         write(&statements, &rules, &mut buffer).unwrap_or(0),
         155660
     );
-    let mut back = Vec::new(heap);
-    for _k in 0..4096 {
-        back.push(rule(9, 9))?;
-    }
+    let mut back = vec![in heap; rule(9, 9); 4096]?;
     assert_eq!(rt;
         load(&buffer, &mut statements, &mut back).unwrap_or(0),
         4096

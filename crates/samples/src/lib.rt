@@ -4,6 +4,8 @@
 #[cfg(test)]
 mod board_texts;
 #[cfg(test)]
+mod desks;
+#[cfg(test)]
 mod measured_lines;
 #[cfg(test)]
 mod other_scales;

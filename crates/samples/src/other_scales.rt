@@ -21,9 +21,7 @@ fn supplier_sets(rt: HostRuntime) {
     assert_eq!(rt; left.level(), 3);
     assert_eq!(rt; Suppliers::highest().level(), 16);
     assert!(rt; !right.at_or_below(left));
-    for code in 0..=u16::MAX {
-        assert!(rt; Suppliers::decode(code).is_some());
-    }
+    assert!(rt; (0..=u16::MAX).all(|code| Suppliers::decode(code).is_some()));
 }
 
 fn doubt(value: u8) -> Turned<Percent> {

@@ -7,9 +7,7 @@ use std::test::Fail;
 // What a line says was expected, on a board of percents with two statements and two places.
 fn due(heap: Global, line: &str) -> Result<Option<Expected>, Fail> {
     let mut script = Script::NoBoard;
-    let Ok(_) = run_line(heap, &mut script, b"board percent 2 2") else {
-        return Err(Fail::new("a board is made"));
-    };
+    let _made = run_line(heap, &mut script, b"board percent 2 2")?;
     match run_line(heap, &mut script, line.as_bytes()) {
         Ok(_) => Ok(None),
         Err(ScriptError::Malformed(expected)) => Ok(Some(expected)),
@@ -67,13 +65,18 @@ fn malformed_boards(rt: HostRuntime) -> Result<(), Fail> {
 }
 
 #[test]
-fn a_call_before_the_first_board(rt: HostRuntime) -> Result<(), Fail> {
+fn a_call_before_the_first_board(rt: HostRuntime) {
     let mut script = Script::NoBoard;
-    match run_line(rt.alloc(), &mut script, b"step") {
-        Err(ScriptError::Malformed(expected)) => {
-            assert_eq!(rt; expected, Expected::BoardFirst);
-            Ok(())
-        },
-        _ => Err(Fail::new("there is no board")),
-    }
+    let refused = run_line(rt.alloc(), &mut script, b"step").err();
+    assert_eq!(rt; refused, Some(ScriptError::Malformed(Expected::BoardFirst)));
+}
+
+#[test]
+fn what_is_said_of_a_line(rt: HostRuntime) -> Result<(), Fail> {
+    let heap = rt.alloc();
+    let malformed = ScriptError::Malformed(Expected::Number).to_string(heap)?;
+    assert_eq!(rt; malformed.as_str(), "expected a decimal number");
+    let no_memory = ScriptError::NoMemory.to_string(heap)?;
+    assert_eq!(rt; no_memory.as_str(), "out of memory");
+    Ok(())
 }

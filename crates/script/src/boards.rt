@@ -1,133 +1,80 @@
 // The line that makes a board: `board SCALE STATEMENTS PLACES [listed CODE...] [ramp NEAR FAR READING...]`.
-ghost use Rattle.std.specs.Prelude.{◌≡◌, replicate, IfOk};
-
-use crate::desks::Desk;
+use crate::desks::{Desk, Size};
 use crate::faults::ScriptError;
 use board::clear;
-use model::{Form, Rule};
-use pasts::{Mark, Statement};
-use plaintext::{is_blank, next_word, same_word, some_word};
-use scales::Written;
+use plaintext::{Words, words};
+use scales::{Percent, Written};
 use spelling::{Expected, grade_field, number_field, reading_field};
 use std::alloc::{AllocError, Global};
-use surveys::{Listed, Ramp};
+use surveys::{Joined, Listed, Ramp};
 
-// How long the tables of a board are to be. Lengths past a limit are judged alike, so one more than the limit is enough.
-#[derive(Clone, Copy)]
-pub struct Size {
-    pub statements: usize,
-    pub places: usize,
-}
+const RAMP: &[u8] = b"ramp";
 
+// Lengths past a limit are judged alike, so one more than the limit is enough.
 pub fn size_of(statements: &[u8], places: &[u8]) -> Result<Size, ScriptError> {
     let statements = (number_field(statements)? as usize).min(1025);
     let places = (number_field(places)? as usize).min(4097);
     Ok(Size { statements, places })
 }
 
-// The rest of the line from the word `ramp` on, empty where there is none.
-pub fn from_ramp(line: &[u8]) -> &[u8] {
-    let mut rest = line;
-    while let Some((word, after)) = some_word(rest) {
-        if same_word(word, b"ramp") {
-            return rest;
-        }
-        rest = after;
-    }
-    &[]
+// The words after `ramp`, where the line has a ramp.
+fn after_ramp(line: &[u8]) -> Option<Words<'_>> {
+    let mut words = words(line);
+    words.find(|word| *word == RAMP)?;
+    Some(words)
 }
 
 // The grades after `listed`, up to a `ramp` or the end of the line; none where the line does not begin so.
-pub fn listed<G: Written>(heap: Global, line: &[u8]) -> Result<Listed<G>, ScriptError> {
-    let mut grades = Vec::new(heap);
-    let (first, mut rest) = next_word(line);
-    if !same_word(first, b"listed") {
-        rest = line;
-    }
-    while let Some((word, after)) = some_word(rest) {
-        if same_word(word, b"ramp") {
-            break;
-        }
-        if !same_word(first, b"listed") {
-            return Err(ScriptError::Malformed(Expected::SurveyPart));
-        }
-        grades.push(grade_field::<G>(word)?)?;
-        rest = after;
-    }
+fn listed<G: Written>(heap: Global, line: &[u8]) -> Result<Listed<G>, ScriptError> {
+    let mut words = words(line);
+    let grades = match words.next() {
+        Some(b"listed") => words
+            .take_while(|word| *word != RAMP)
+            .map(|word| -> Result<G, ScriptError> { Ok(grade_field(word)?) })
+            .try_collect(heap)?,
+        Some(b"ramp") | None => Vec::new(heap),
+        Some(_) => return Err(ScriptError::Malformed(Expected::SurveyPart)),
+    };
     Ok(Listed { grades })
 }
 
-fn readings(heap: Global, line: &[u8]) -> Result<Vec<u16>, ScriptError> {
-    let mut found = Vec::new(heap);
-    let mut rest = line;
-    while let Some((word, after)) = some_word(rest) {
-        found.push(reading_field(word)?)?;
-        rest = after;
-    }
-    Ok(found)
-}
-
 // The ramp that ends the line; where there is none, one that measured nothing.
-pub fn ramp(heap: Global, line: &[u8]) -> Result<Ramp, ScriptError> {
-    if is_blank(line) {
+fn ramp(heap: Global, line: &[u8]) -> Result<Ramp, ScriptError> {
+    let Some(mut words) = after_ramp(line) else {
         return Ok(Ramp {
             readings: Vec::new(heap),
             near: 0,
             far: 0,
         });
-    }
-    let (_, rest) = next_word(line);
-    let (near, rest) = next_word(rest);
-    let (far, rest) = next_word(rest);
+    };
+    let near = reading_field(words.next().unwrap_or(&[]))?;
+    let far = reading_field(words.next().unwrap_or(&[]))?;
+    let readings = words
+        .map(|word| -> Result<u16, ScriptError> { Ok(reading_field(word)?) })
+        .try_collect(heap)?;
     Ok(Ramp {
-        readings: readings(heap, rest)?,
-        near: reading_field(near)?,
-        far: reading_field(far)?,
+        readings,
+        near,
+        far,
     })
 }
 
-// Only percent has a ramp.
-pub fn no_ramp(line: &[u8]) -> Result<(), ScriptError> {
-    if is_blank(from_ramp(line)) {
-        Ok(())
-    } else {
-        Err(ScriptError::Malformed(Expected::NoRamp))
-    }
-}
-
-pub(crate) fn filled<T: Copy>(heap: Global, value: T, len: usize) -> Result<Vec<T>, AllocError>
-    ensures { IfOk result (λ v. v.items ≡ replicate len value) }
-{
-    let mut table = Vec::new(heap);
-    for _i in 0..len {
-        table.push(value)?;
-    }
-    Ok(table)
-}
-
-// A board over the survey with tables of this size.
-pub fn desk<G: Written, V: Drop>(
+// The survey of a percent board.
+pub fn listed_and_ramp(
     heap: Global,
-    survey: V,
-    size: Size,
-) -> Result<Desk<G, V>, AllocError> {
-    let statement = Statement {
-        grade: G::lowest(),
-        mark: Mark::Unopened,
-    };
-    let rule = Rule {
-        head: 0,
-        form: Form::All,
-        weight: G::lowest(),
-        bodies: [0; 4],
-    };
-    let statements = filled(heap, statement, size.statements)?;
-    let rules = filled(heap, rule, size.places)?;
-    Ok(Desk {
-        survey,
-        statements,
-        rules,
-    })
+    line: &[u8],
+) -> Result<Joined<Listed<Percent>, Ramp>, ScriptError> {
+    let first = listed(heap, line)?;
+    let second = ramp(heap, line)?;
+    Ok(Joined { first, second })
+}
+
+// The survey of any other board: only percent has a ramp.
+pub fn listed_alone<G: Written>(heap: Global, line: &[u8]) -> Result<Listed<G>, ScriptError> {
+    match after_ramp(line) {
+        None => listed(heap, line),
+        Some(_) => Err(ScriptError::Malformed(Expected::NoRamp)),
+    }
 }
 
 // Clears the board, and says so.
@@ -137,9 +84,6 @@ pub fn clear_line<G: Written, V>(
 ) -> Result<String, AllocError> {
     match clear(&mut desk.statements, &mut desk.rules) {
         Ok(()) => String::from_str(heap, "board: cleared\n"),
-        Err(refusal) => {
-            let number = refusal.number();
-            format!(in heap; "board: refused {number}\n")
-        }
+        Err(refusal) => format!(in heap; "board: {refusal}\n"),
     }
 }

@@ -9,7 +9,7 @@ mod faults;
 mod runner;
 mod texts;
 
-pub use desks::Desk;
+pub use desks::{Desk, Size};
 pub use faults::ScriptError;
 pub use runner::{Script, load_path, run_line, run_load};
 pub use texts::Loaded;

@@ -1,11 +1,11 @@
 // Carries a script out, line by line, on the board that the last `board` line made.
 use crate::answers::answer_line;
-use crate::boards::{clear_line, desk, from_ramp, listed, no_ramp, ramp, size_of};
+use crate::boards::{clear_line, listed_alone, listed_and_ramp, size_of};
 use crate::desks::Desk;
 use crate::dumps::{grades, tables};
 use crate::faults::ScriptError;
 use crate::texts::{Loaded, load_line, write_line};
-use plaintext::{is_blank, next_word, same_word};
+use plaintext::{next_word, words};
 use scales::{Belief, Percent, Suppliers, Verdict, Written};
 use spelling::{Expected, end, spelled_call};
 use std::alloc::Global;
@@ -21,32 +21,35 @@ pub enum Script {
     Belief(Desk<Belief, Listed<Belief>>),
 }
 
+// The same work on the desk of each scale. Their types differ, and no closure is generic over them.
+macro_rules! on_board {
+    ($script:expr, $desk:ident => $work:expr) => {
+        match $script {
+            Script::NoBoard => Err(ScriptError::Malformed(Expected::BoardFirst)),
+            Script::Percent($desk) => $work,
+            Script::Verdict($desk) => $work,
+            Script::Suppliers($desk) => $work,
+            Script::Belief($desk) => $work,
+        }
+    };
+}
+
 // What a line prints: nothing where it is blank or begins with `#`. A `load` line is for `run_load`, once its file was read.
 pub fn run_line(heap: Global, script: &mut Script, line: &[u8]) -> Result<String, ScriptError> {
     let (verb, rest) = next_word(line);
-    if verb.is_empty() || verb[0] == b'#' {
-        return Ok(String::new(heap));
-    }
-    if same_word(verb, b"board") {
-        return board_line(heap, script, rest);
-    }
-    match script {
-        Script::NoBoard => Err(ScriptError::Malformed(Expected::BoardFirst)),
-        Script::Percent(desk) => desk_line(heap, desk, verb, rest),
-        Script::Verdict(desk) => desk_line(heap, desk, verb, rest),
-        Script::Suppliers(desk) => desk_line(heap, desk, verb, rest),
-        Script::Belief(desk) => desk_line(heap, desk, verb, rest),
+    match verb {
+        [] | [b'#', ..] => Ok(String::new(heap)),
+        b"board" => board_line(heap, script, rest),
+        _ => on_board!(script, desk => desk_line(heap, desk, verb, rest)),
     }
 }
 
 // The path that a `load` line names.
 pub fn load_path(line: &[u8]) -> Option<&[u8]> {
-    let (verb, rest) = next_word(line);
-    let (path, after) = next_word(rest);
-    if same_word(verb, b"load") && !path.is_empty() && is_blank(after) {
-        Some(path)
-    } else {
-        None
+    let mut words = words(line);
+    match (words.next(), words.next(), words.next()) {
+        (Some(b"load"), path, None) => path,
+        _ => None,
     }
 }
 
@@ -57,13 +60,7 @@ pub fn run_load(
     path: &[u8],
     text: &[u8],
 ) -> Result<Loaded, ScriptError> {
-    match script {
-        Script::NoBoard => Err(ScriptError::Malformed(Expected::BoardFirst)),
-        Script::Percent(desk) => Ok(load_line(heap, desk, path, text)?),
-        Script::Verdict(desk) => Ok(load_line(heap, desk, path, text)?),
-        Script::Suppliers(desk) => Ok(load_line(heap, desk, path, text)?),
-        Script::Belief(desk) => Ok(load_line(heap, desk, path, text)?),
-    }
+    on_board!(script, desk => Ok(load_line(heap, desk, path, text)?))
 }
 
 fn desk_line<G: Written, V: Survey<Grade = G>>(
@@ -72,68 +69,61 @@ fn desk_line<G: Written, V: Survey<Grade = G>>(
     verb: &[u8],
     rest: &[u8],
 ) -> Result<String, ScriptError> {
-    if same_word(verb, b"tables") {
-        end(rest)?;
-        return Ok(tables(heap, desk)?);
+    match verb {
+        b"tables" => {
+            end(rest)?;
+            Ok(tables(heap, desk)?)
+        }
+        b"grades" => {
+            end(rest)?;
+            Ok(grades(heap, desk)?)
+        }
+        b"write" => {
+            end(rest)?;
+            Ok(write_line(heap, desk)?)
+        }
+        _ => {
+            let call = spelled_call(verb, rest)?;
+            let answer = desk.call(&call);
+            let (number, _) = next_word(rest);
+            Ok(answer_line(heap, verb, number, answer)?)
+        }
     }
-    if same_word(verb, b"grades") {
-        end(rest)?;
-        return Ok(grades(heap, desk)?);
-    }
-    if same_word(verb, b"write") {
-        end(rest)?;
-        return Ok(write_line(heap, desk)?);
-    }
-    let call = spelled_call(verb, rest)?;
-    let answer = desk.call(&call);
-    let (number, _) = next_word(rest);
-    Ok(answer_line(heap, verb, number, answer)?)
 }
 
 // Makes the board that the rest of a `board` line spells, also where it is refused.
 fn board_line(heap: Global, script: &mut Script, rest: &[u8]) -> Result<String, ScriptError> {
     let (scale, rest) = next_word(rest);
-    if same_word(scale, b"percent") {
-        percent_line(heap, script, rest)
-    } else if same_word(scale, b"verdict") {
-        let (desk, text) = listed_desk(heap, rest)?;
-        *script = Script::Verdict(desk);
-        Ok(text)
-    } else if same_word(scale, b"suppliers") {
-        let (desk, text) = listed_desk(heap, rest)?;
-        *script = Script::Suppliers(desk);
-        Ok(text)
-    } else if same_word(scale, b"belief") {
-        let (desk, text) = listed_desk(heap, rest)?;
-        *script = Script::Belief(desk);
-        Ok(text)
-    } else {
-        Err(ScriptError::Malformed(Expected::ScaleName))
+    match scale {
+        b"percent" => make(heap, script, rest, Script::Percent, listed_and_ramp),
+        b"verdict" => make(heap, script, rest, Script::Verdict, listed_alone),
+        b"suppliers" => make(heap, script, rest, Script::Suppliers, listed_alone),
+        b"belief" => make(heap, script, rest, Script::Belief, listed_alone),
+        _ => Err(ScriptError::Malformed(Expected::ScaleName)),
     }
 }
 
-fn percent_line(heap: Global, script: &mut Script, line: &[u8]) -> Result<String, ScriptError> {
-    let (statements, rest) = next_word(line);
-    let (places, rest) = next_word(rest);
-    let size = size_of(statements, places)?;
-    let first = listed(heap, rest)?;
-    let second = ramp(heap, from_ramp(rest))?;
-    let mut desk = desk(heap, Joined { first, second }, size)?;
-    let text = clear_line(heap, &mut desk)?;
-    *script = Script::Percent(desk);
-    Ok(text)
-}
-
-fn listed_desk<G: Written + Drop>(
+// Makes the board of one scale: `read` reads its survey off the line, and `kept` is where it belongs.
+fn make<G, V, R, K>(
     heap: Global,
+    script: &mut Script,
     line: &[u8],
-) -> Result<(Desk<G, Listed<G>>, String), ScriptError> {
+    kept: K,
+    read: R,
+) -> Result<String, ScriptError>
+where
+    G: Written,
+    V: Survey<Grade = G> + Drop,
+    R: FnOnce(Global, &[u8]) -> Result<V, ScriptError>,
+    K: FnOnce(Desk<G, V>) -> Script,
+    requires kept { K.IsAlwaysCallable kept }
+    requires read { R.IsAlwaysCallable read }
+{
     let (statements, rest) = next_word(line);
     let (places, rest) = next_word(rest);
     let size = size_of(statements, places)?;
-    no_ramp(rest)?;
-    let survey = listed(heap, rest)?;
-    let mut desk = desk(heap, survey, size)?;
+    let mut desk = Desk::new(heap, read(heap, rest)?, size)?;
     let text = clear_line(heap, &mut desk)?;
-    Ok((desk, text))
+    *script = kept(desk);
+    Ok(text)
 }

@@ -1,12 +1,9 @@
 // Board text in scripts: a text read into the current board, and the board written as text.
-use crate::answers::push_word;
-use crate::boards::filled;
 use crate::desks::Desk;
-use pasts::Refusal;
-use plaintext::next_line;
+use plaintext::{lines, push_bytes};
 use scales::Written;
 use std::alloc::{AllocError, Global};
-use text::{Fault, Layer, Report, load, write};
+use text::{Place, load, write};
 
 // What a load prints, and what it tells a person besides.
 #[derive(Drop)]
@@ -15,48 +12,14 @@ pub struct Loaded {
     pub note: String,
 }
 
-fn layer_word(layer: Layer) -> &'static str {
-    match layer {
-        Layer::Field => "field",
-        Layer::Line => "line",
-        Layer::Board => "board",
-    }
-}
-
-fn fault_words(heap: Global, report: Report) -> Result<String, AllocError> {
-    let number = report.refusal.number();
-    let layer = layer_word(report.layer);
-    let line = report.place.line;
-    let column = report.place.column;
-    format!(in heap; "refused {number} at {layer} line {line} column {column}\n")
-}
-
-// The line of the text with this number, counted from 1; empty where there is none.
-fn line_of(text: &[u8], number: usize) -> &[u8] {
-    let mut rest = text;
-    let mut n: usize = 0;
-    while let Some((line, after)) = next_line(rest) {
-        n = n.saturating_add(1);
-        if n == number {
-            return line;
-        }
-        rest = after;
-    }
-    &[]
-}
-
-// The offending line with a mark below its column.
-fn marked_line(heap: Global, text: &[u8], report: Report) -> Result<String, AllocError> {
+// The offending line with a mark below its column; empty where the fault stands on no line.
+fn marked_line(heap: Global, text: &[u8], place: Place) -> Result<String, AllocError> {
     let mut note = String::new(heap);
-    if report.place.line == 0 {
-        return Ok(note);
+    if let Some(before) = place.line.checked_sub(1) {
+        let column = place.column;
+        push_bytes(&mut note, lines(text).nth(before).unwrap_or(&[]))?;
+        writeln!(note, "\n{:>column$}", "^")?;
     }
-    push_word(&mut note, line_of(text, report.place.line))?;
-    note.push('\n')?;
-    for _i in 1..report.place.column {
-        note.push(' ')?;
-    }
-    note.push_str("^\n")?;
     Ok(note)
 }
 
@@ -68,41 +31,31 @@ pub fn load_line<G: Written, V>(
     text: &[u8],
 ) -> Result<Loaded, AllocError> {
     let mut answer = String::from_str(heap, "load ")?;
-    push_word(&mut answer, path)?;
-    answer.push_str(": ")?;
-    match load(text, &mut desk.statements, &mut desk.rules) {
+    push_bytes(&mut answer, path)?;
+    let note = match load(text, &mut desk.statements, &mut desk.rules) {
         Ok(count) => {
-            answer.push_str(format!(in heap; "{count} rules\n")?.as_str())?;
-            let note = String::new(heap);
-            Ok(Loaded { answer, note })
+            writeln!(answer, ": {count} rules")?;
+            String::new(heap)
         }
         Err(fault) => {
-            let report = fault.report();
-            answer.push_str(fault_words(heap, report)?.as_str())?;
-            let note = marked_line(heap, text, report)?;
-            Ok(Loaded { answer, note })
+            writeln!(answer, ": {fault}")?;
+            marked_line(heap, text, fault.report().place)?
         }
-    }
+    };
+    Ok(Loaded { answer, note })
 }
 
 // The board as text, or why it is not written.
 pub fn write_line<G: Written, V>(heap: Global, desk: &Desk<G, V>) -> Result<String, AllocError> {
-    let mut buffer = filled(
-        heap,
-        0u8,
-        desk.rules.len().saturating_mul(38).saturating_add(12),
-    )?;
+    let room = desk.rules.len().saturating_mul(38).saturating_add(12);
+    let mut buffer = vec![in heap; 0u8; room]?;
     match write(&desk.statements, &desk.rules, &mut buffer) {
         Ok(len) => {
+            buffer.truncate(len);
             let mut text = String::new(heap);
-            push_word(&mut text, buffer.get(0..len).unwrap_or(&[]))?;
+            push_bytes(&mut text, &buffer)?;
             Ok(text)
         }
-        Err(refusal) => refused(heap, refusal),
+        Err(refusal) => format!(in heap; "write: {refusal}\n"),
     }
-}
-
-fn refused(heap: Global, refusal: Refusal) -> Result<String, AllocError> {
-    let number = refusal.number();
-    format!(in heap; "write: refused {number}\n")
 }

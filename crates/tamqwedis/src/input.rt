@@ -6,10 +6,7 @@ use std::io::Read;
 // The file at the path, or standard input where there is none.
 pub(crate) fn input(rt: &HostRuntime, path: Option<String>) -> Result<Vec<u8>, Failure> {
     match path {
-        Some(path) => match fs::read(rt, path.as_str()) {
-            Ok(text) => Ok(text),
-            Err(error) => Err(Failure::Told(format!(in rt.alloc(); "{path}: {error}")?)),
-        },
+        Some(path) => fs::read(rt, path.as_str()).map_err(|error| Failure::File(path, error)),
         None => {
             let mut text = Vec::new(rt.alloc());
             rt.stdin().read_to_end(&mut text)?;

@@ -27,7 +27,7 @@ module _ (n p : ℕ) (text : List ℕ) where
     Rest r = r ≡ judged (counts_checks n p bytes) (number_in bytes 7)
 
     past_line : (r : Result ℕ Fault) → Rest r → All r
-    past_line r e = after (whole_check 11 1 text ∷ []) (counts_checks n p (take 11 text)) (take 11 text) bytes (rule_count text) t (e ∙ ap (λ b. judged (counts_checks n p b) (number_in b 7)) (taken_is 11 1 text bytes t).0)
+    past_line r e = after (whole_check 11 1 text ∷ []) (counts_checks n p (take 11 text)) (take 11 text) bytes (rule_count text) t (e ∙ ap (λ b. judged (counts_checks n p b) (number_in b 7)) (taken_is 11 1 text bytes t))
 
     pub in_due : (f : Fault) → Err f ≡ judged (dues bytes) (tt {0}) → All (Err f)
     in_due f e = past_line (Err f) (stops (dues bytes) (ones bytes ++ twos bytes) (tt {0}) (number_in bytes 7) f e)

@@ -1,6 +1,7 @@
 -- The rules that a table holds, place by place.
-use Rattle.std.proofs.Common.{◌≡◌, ℕ, suc, ◌+◌, ◌<◌, ◌≤◌, Bool, true, false, cond, eqb, List, [], ◌∷◌, ◌++◌, length, get_or, take, drop, sym, refl, ap, ◌∙◌, arith}
+use Rattle.std.proofs.Common.{◌≡◌, ℕ, suc, ◌+◌, ◌<◌, ◌≤◌, Bool, true, false, cond, not, eqb, List, [], ◌∷◌, ◌++◌, length, get_or, take, drop, count_by, sym, refl, ap, ◌∙◌, arith}
 use Rattle.std.proofs.lemmas.List.{append-nil, take_more, take-append-drop, length-take-le, length-append}
+use Rattle.std.proofs.lemmas.List.Sums.{sum_by-cons}
 use Rattle.std.proofs.lemmas.Bool.{cond-true, cond-false, eq-eqb, ne_eqb}
 use Rattle.model.proofs.Cases.{at_test}
 use Rattle.model.specs.declared.rule.Rule.{Rule}
@@ -21,12 +22,11 @@ module _ {G : Type 0} where
       let j : length xs + suc k ≡ length (x ∷ xs) + k = omega arith in
       ap (here k x) (held_append (suc k) xs ys ∙ ap (λ l. held (suc k) xs ++ held l ys) j) ∙ here_append (eqb x.head 0) (numbered k x) (held (suc k) xs) (held (length (x ∷ xs) + k) ys)
 
-  here_few : (k : ℕ) (r : Rule G) (rest : List (Numbered G)) (n : ℕ) → length rest ≤ n → length (here k r rest) ≤ n + 1
-  here_few k r rest n h = at_test (eqb r.head 0) (λ b. length (cond b rest (numbered k r ∷ rest)) ≤ n + 1) (λ _. omega arith) (λ _. omega arith)
-
-  pub held_few : (k : ℕ) (rules : List (Rule G)) → length (held k rules) ≤ length rules
-  held_few k [] = omega arith
-  held_few k (r ∷ rs) = omega (arith, here_few k r (held (suc k) rs) (length rs) (held_few (suc k) rs))
+  pub held_count : (k : ℕ) (rules : List (Rule G)) → length (held k rules) ≡ count_by (λ r. not (eqb r.head 0)) rules
+  held_count k [] = refl
+  held_count k (r ∷ rs) =
+      at_test (eqb r.head 0) (λ b. length (cond b (held (suc k) rs) (numbered k r ∷ held (suc k) rs)) ≡ cond (not b) 1 0 + count_by (λ x. not (eqb x.head 0)) rs) (λ _. omega (arith, held_count (suc k) rs)) (λ _. omega (arith, held_count (suc k) rs))
+      ∙ sym (sum_by-cons (λ x. cond (not (eqb x.head 0)) 1 0) r rs)
 
   module _ (rules : List (Rule G)) (i : ℕ) (r d : Rule G) (h : i < length rules) (e : r ≡ get_or rules i d) where
     held_next : held 1 (take (i + 1) rules) ≡ held 1 (take i rules) ++ here (i + 1) r []

@@ -1,5 +1,4 @@
 pub mod Columns
-pub mod Filled
 pub mod Judged
 pub mod Places
 pub mod Unwritten

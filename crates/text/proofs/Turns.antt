@@ -13,79 +13,55 @@ use Rattle.text.specs.Lines.{cut, after}
 use Rattle.text.specs.Rows.{number_in, rule_in, rules_in, row_checks, rows_checks}
 use Rattle.text.specs.declared.faults.Fault.{Fault}
 use Rattle.text.specs.declared.numbered.Numbered.{Numbered}
-use Rattle.text.proofs.Judged.{passed, passes, goes, stops, unmet_parts}
+use Rattle.text.proofs.Judged.{passed, goes, stops}
 
--- a step from the line i is one of those that are left
-left_more : (i count : ℕ) → i < count → count - i ≡ suc (count - (i + 1))
-left_more i count h = omega arith
-
-pub all_left : (count : ℕ) → count - 0 ≡ count
-all_left count = omega arith
+-- a line before the end is one of those that are left
+left_more : (line end : ℕ) → line < end → end - line ≡ suc (end - (line + 1))
+left_more line end h = omega arith
 
 module _ {G : Type 0} (m : Meaning G) (k : Coding G) (n p : ℕ) where
   abbrev rows : ℕ → ℕ → ℕ → List ℕ → List Check
   rows last line j rest = rows_checks k n p last line j rest
 
-  front : (last i count : ℕ) (rest : List ℕ) → i < count → rows last (i + 2) (count - i) rest ≡ row_checks k n p last (i + 2) rest ++ rows (number_in (take 37 rest) 2) (i + 2 + 1) (count - (i + 1)) (drop 38 rest)
-  front last i count rest h = ap (λ j. rows last (i + 2) j rest) (left_more i count h)
+  front : (last line end : ℕ) (rest : List ℕ) → line < end → rows last line (end - line) rest ≡ row_checks k n p last line rest ++ rows (number_in (take 37 rest) 2) (line + 1) (end - (line + 1)) (drop 38 rest)
+  front last line end rest h = ap (λ j. rows last line j rest) (left_more line end h)
 
   -- the checks when no line is left
-  pub at_end : (last i count : ℕ) (rest : List ℕ) → count ≤ i → i ≤ count → rows last (i + 2) (count - i) rest ≡ check (of_board Count (count + 2) 1) (not (eqb (length rest) 0)) ∷ []
-  at_end last i count rest h l =
-      let e : i ≡ count = omega arith in
-      let z : count - count ≡ 0 = omega arith in
-      ap (λ j. rows last (j + 2) (count - j) rest) e ∙ ap (λ j. rows last (count + 2) j rest) z
+  pub at_end : (last line end : ℕ) (rest : List ℕ) → line ≡ end → rows last line (end - line) rest ≡ check (of_board Count end 1) (not (eqb (length rest) 0)) ∷ []
+  at_end last line end rest e =
+      let z : end - end ≡ 0 = omega arith in
+      ap (λ j. rows last j (end - j) rest) e ∙ ap (λ j. rows last end j rest) z
 
-  pub in_line : (last i count : ℕ) (rest : List ℕ) (f : Fault) → i < count → Err f ≡ judged (row_checks k n p last (i + 2) rest) (rule_in m k (take 37 rest)) → Err f ≡ judged (rows last (i + 2) (count - i) rest) (tt {0})
-  in_line last i count rest f h e =
-      stops (row_checks k n p last (i + 2) rest) (rows (number_in (take 37 rest) 2) (i + 2 + 1) (count - (i + 1)) (drop 38 rest)) (rule_in m k (take 37 rest)) (tt {0}) f e
-      ∙ sym (ap (λ cs. judged cs (tt {0})) (front last i count rest h))
+  pub in_line : (last line end : ℕ) (rest : List ℕ) (f : Fault) → line < end → Err f ≡ judged (row_checks k n p last line rest) (rule_in m k (take 37 rest)) → Err f ≡ judged (rows last line (end - line) rest) (tt {0})
+  in_line last line end rest f h e =
+      stops (row_checks k n p last line rest) (rows (number_in (take 37 rest) 2) (line + 1) (end - (line + 1)) (drop 38 rest)) (rule_in m k (take 37 rest)) (tt {0}) f e
+      ∙ sym (ap (λ cs. judged cs (tt {0})) (front last line end rest h))
 
-  module _ (last i count : ℕ) (rest next : List ℕ) (x : Numbered G) (h : i < count) (e : Ok x ≡ judged (row_checks k n p last (i + 2) rest) (rule_in m k (take 37 rest))) (moved : next ≡ after 37 rest) where
-    unmet : Unmet (row_checks k n p last (i + 2) rest)
-    unmet = (passed (row_checks k n p last (i + 2) rest) (rule_in m k (take 37 rest)) x e).0
+  module _ (last line end : ℕ) (rest next : List ℕ) (x : Numbered G) (h : line < end) (e : Ok x ≡ judged (row_checks k n p last line rest) (rule_in m k (take 37 rest))) (moved : next ≡ after 37 rest) where
+    unmet : Unmet (row_checks k n p last line rest)
+    unmet = (passed (row_checks k n p last line rest) (rule_in m k (take 37 rest)) x e).0
 
     is : x ≡ rule_in m k (take 37 rest)
-    is = (passed (row_checks k n p last (i + 2) rest) (rule_in m k (take 37 rest)) x e).1
+    is = (passed (row_checks k n p last line rest) (rule_in m k (take 37 rest)) x e).1
 
     gone : drop 38 rest ≡ next
     gone = sym (moved ∙ cond-false (cut 37 rest) rest (drop 38 rest) unmet.0)
 
-    line_is : i + 2 + 1 ≡ i + 1 + 2
-    line_is = omega arith
-
-    next_rows : rows (number_in (take 37 rest) 2) (i + 2 + 1) (count - (i + 1)) (drop 38 rest) ≡ rows x.mark (i + 1 + 2) (count - (i + 1)) next
-    next_rows =
-        ap (λ (a : ℕ). rows a (i + 2 + 1) (count - (i + 1)) (drop 38 rest)) (sym (ap (λ (y : Numbered G). y.mark) is))
-        ∙ ap (λ (l : ℕ). rows x.mark l (count - (i + 1)) (drop 38 rest)) line_is
-        ∙ ap (λ (r : List ℕ). rows x.mark (i + 1 + 2) (count - (i + 1)) r) gone
-
-    pub goes_on : judged (rows last (i + 2) (count - i) rest) (tt {0}) ≡ judged (rows x.mark (i + 1 + 2) (count - (i + 1)) next) (tt {0})
+    pub goes_on : judged (rows last line (end - line) rest) (tt {0}) ≡ judged (rows x.mark (line + 1) (end - (line + 1)) next) (tt {0})
     goes_on =
-        ap (λ cs. judged cs (tt {0})) (front last i count rest h)
-        ∙ goes (row_checks k n p last (i + 2) rest) (rows (number_in (take 37 rest) 2) (i + 2 + 1) (count - (i + 1)) (drop 38 rest)) (rule_in m k (take 37 rest)) x (tt {0}) e
-        ∙ ap (λ cs. judged cs (tt {0})) next_rows
-
-    pub sound_on : Unmet (rows last (i + 2) (count - i) rest) → Unmet (rows x.mark (i + 1 + 2) (count - (i + 1)) next)
-    sound_on u =
-        subst Unmet next_rows (unmet_parts (row_checks k n p last (i + 2) rest) (rows (number_in (take 37 rest) 2) (i + 2 + 1) (count - (i + 1)) (drop 38 rest)) (subst Unmet (front last i count rest h) u)).1
+        ap (λ cs. judged cs (tt {0})) (front last line end rest h)
+        ∙ goes (row_checks k n p last line rest) (rows (number_in (take 37 rest) 2) (line + 1) (end - (line + 1)) (drop 38 rest)) (rule_in m k (take 37 rest)) x (tt {0}) e
+        ∙ ap (λ (a : ℕ). judged (rows a (line + 1) (end - (line + 1)) (drop 38 rest)) (tt {0})) (sym (ap (λ (y : Numbered G). y.mark) is))
+        ∙ ap (λ (r : List ℕ). judged (rows x.mark (line + 1) (end - (line + 1)) r) (tt {0})) gone
 
     pub on_place : On p x.mark
     on_place = subst (On p) (sym (ap (λ (y : Numbered G). y.mark) is)) (inside_on p (number_in (take 37 rest) 2) unmet.1.1.1.0)
 
-    pub placed_on : (rules : List (Rule G)) → placed (set rules (x.mark - 1) x.rule) (rules_in m k (count - (i + 1)) next) ≡ placed rules (rules_in m k (count - i) rest)
+    pub placed_on : (rules : List (Rule G)) → placed (set rules (x.mark - 1) x.rule) (rules_in m k (end - (line + 1)) next) ≡ placed rules (rules_in m k (end - line) rest)
     placed_on rules =
-        sym (ap (λ (j : ℕ). placed rules (rules_in m k j rest)) (left_more i count h)
-        ∙ ap (λ (y : Numbered G). placed (set rules (y.mark - 1) y.rule) (rules_in m k (count - (i + 1)) (drop 38 rest))) (sym is)
-        ∙ ap (λ (r : List ℕ). placed (set rules (x.mark - 1) x.rule) (rules_in m k (count - (i + 1)) r)) gone)
-
-  -- no line of a sound text is refused
-  pub never : (last i count : ℕ) (rest : List ℕ) (f : Fault) → i < count → Unmet (rows last (i + 2) (count - i) rest) → Err f ≡ judged (row_checks k n p last (i + 2) rest) (rule_in m k (take 37 rest)) → ⊥
-  never last i count rest f h u e =
-      let v = (unmet_parts (row_checks k n p last (i + 2) rest) (rows (number_in (take 37 rest) 2) (i + 2 + 1) (count - (i + 1)) (drop 38 rest)) (subst Unmet (front last i count rest h) u)).0 in
-      let q = passes (row_checks k n p last (i + 2) rest) (rule_in m k (take 37 rest)) v in
-      let z : ◌≡◌ {A = ℕ} 0 1 = cc (e, q) in
-      omega arith
+        sym (ap (λ (j : ℕ). placed rules (rules_in m k j rest)) (left_more line end h)
+        ∙ ap (λ (y : Numbered G). placed (set rules (y.mark - 1) y.rule) (rules_in m k (end - (line + 1)) (drop 38 rest))) (sym is)
+        ∙ ap (λ (r : List ℕ). placed (set rules (x.mark - 1) x.rule) (rules_in m k (end - (line + 1)) r)) gone)
 
 -- bytes after the last line, or none
 pub bytes_follow : (rest : List ℕ) (f : Fault) → 0 < length rest → Err f ≡ judged (check f (not (eqb (length rest) 0)) ∷ []) (tt {0})

@@ -1,5 +1,6 @@
 pub mod Decimal
 pub mod Faults
+pub mod Spoken
 pub mod Lines
 pub mod Fields
 pub mod Rows

@@ -1,5 +1,5 @@
 // Numbers in five columns: blanks, then decimal digits with no leading zero but 0 itself.
-ghost use Rattle.std.specs.Prelude.{◌≡◌, ◌<◌, ◌≤◌, length};
+ghost use Rattle.std.specs.Prelude.{◌≡◌, ◌<◌, length};
 ghost use Rattle.std.specs.Option.{unwrap_or};
 ghost use Rattle.text.specs.Decimal.{parsed, step, written, column};
 
@@ -18,8 +18,7 @@ fn next(value: Option<u32>, b: u8) -> Option<Option<u32>>
 }
 
 // The number that the columns spell, if they spell one.
-pub fn parse(field: &[u8]) -> Option<u32>
-    requires { length field.now ≤ 5 }
+pub fn parse(field: &[u8; 5]) -> Option<u32>
     ensures { result ≡ parsed field.now }
 {
     let mut value: Option<u32> = None;
@@ -45,9 +44,11 @@ pub fn write_number(n: u32, out: &mut [u8])
     requires { length out.old ≡ 5 }
     ensures { out.new ≡ written n }
 {
-    out[0] = digit(n, 10000);
-    out[1] = digit(n, 1000);
-    out[2] = digit(n, 100);
-    out[3] = digit(n, 10);
-    out[4] = b'0' + (n % 10) as u8;
+    out.copy_from_slice(&[
+        digit(n, 10000),
+        digit(n, 1000),
+        digit(n, 100),
+        digit(n, 10),
+        b'0' + (n % 10) as u8,
+    ]);
 }

@@ -6,41 +6,43 @@ ghost use Rattle.text.specs.declared.faults.LineFault.TheVariants.{InField};
 ghost use Rattle.text.specs.declared.faults.Fault.TheVariants.{InLine};
 
 use pasts::Refusal;
+use std::error::Error;
+use std::fmt;
 
 // Lines and columns count from 1. What is amiss with the tables stands at line 0, column 0.
-#[derive(Clone, Copy)]
+#[derive(Clone, Copy, Debug, PartialEq, Eq)]
 pub struct Place {
     pub line: usize,
     pub column: usize,
 }
 
-#[derive(Clone, Copy)]
+#[derive(Clone, Copy, Debug, PartialEq, Eq)]
 pub struct FieldFault {
     pub refusal: Refusal,
     pub place: Place,
 }
 
-#[derive(Clone, Copy)]
+#[derive(Clone, Copy, Debug, PartialEq, Eq)]
 pub enum LineFault {
     OnLine(Refusal, Place),
     InField(FieldFault),
 }
 
-#[derive(Clone, Copy)]
+#[derive(Clone, Copy, Debug, PartialEq, Eq)]
 pub enum Fault {
     OnBoard(Refusal, Place),
     InLine(LineFault),
 }
 
 // Where a fault comes from.
-#[derive(Clone, Copy)]
+#[derive(Clone, Copy, Debug, PartialEq, Eq)]
 pub enum Layer {
     Field,
     Line,
     Board,
 }
 
-#[derive(Clone, Copy)]
+#[derive(Clone, Copy, Debug, PartialEq, Eq)]
 pub struct Report {
     pub refusal: Refusal,
     pub layer: Layer,
@@ -96,3 +98,54 @@ impl Fault {
         }
     }
 }
+
+impl fmt::Display for Place {
+    ghost use Rattle.std.specs.Prelude.{Some};
+    ghost use Rattle.text.specs.Spoken.{place_text};
+
+    ghost output = { λ p. Some (place_text p) };
+
+    fn fmt<W: fmt::Write>(&self, f: &mut fmt::Formatter<W>) -> fmt::Result {
+        write!(f, "line {} column {}", self.line, self.column)
+    }
+}
+
+impl fmt::Display for Layer {
+    ghost use Rattle.std.specs.Prelude.{Some};
+    ghost use Rattle.text.specs.Spoken.{layer_text};
+
+    ghost output = { λ l. Some (layer_text l) };
+
+    fn fmt<W: fmt::Write>(&self, f: &mut fmt::Formatter<W>) -> fmt::Result {
+        f.write_str(match self {
+            Layer::Field => "field",
+            Layer::Line => "line",
+            Layer::Board => "board",
+        })
+    }
+}
+
+impl fmt::Display for Report {
+    ghost use Rattle.std.specs.Prelude.{Some};
+    ghost use Rattle.text.specs.Spoken.{report_text};
+
+    ghost output = { λ r. Some (report_text r) };
+
+    fn fmt<W: fmt::Write>(&self, f: &mut fmt::Formatter<W>) -> fmt::Result {
+        write!(f, "{} at {} {}", self.refusal, self.layer, self.place)
+    }
+}
+
+impl fmt::Display for Fault {
+    ghost use Rattle.std.specs.Prelude.{Some};
+    ghost use Rattle.text.specs.Faults.{report};
+    ghost use Rattle.text.specs.Spoken.{report_text};
+
+    ghost output = { λ x. Some (report_text (report x)) };
+
+    fn fmt<W: fmt::Write>(&self, f: &mut fmt::Formatter<W>) -> fmt::Result {
+        write!(f, "{}", self.report())
+    }
+}
+
+impl Error for Fault {}

@@ -1,5 +1,5 @@
 // The fields of a line: numbers, the letter of a form, and the code of a weight.
-ghost use Rattle.std.specs.Prelude.{◌≡◌, ◌≤◌, length};
+ghost use Rattle.std.specs.Prelude.{◌≡◌};
 ghost use Rattle.text.specs.Faults.{field_risen, judged};
 ghost use Rattle.text.specs.Fields.{number_of, number_checks, form_of, form_checks, weight_of, weight_checks};
 
@@ -9,34 +9,26 @@ use model::Form;
 use pasts::Refusal;
 use scales::Written;
 
-pub fn read_number(field: &[u8], place: Place) -> Result<u32, FieldFault>
-    requires { length field.now ≤ 5 }
+pub fn read_number(field: &[u8; 5], place: Place) -> Result<u32, FieldFault>
     ensures { field_risen result ≡ judged (number_checks field.now place.line place.column) (number_of field.now) }
 {
-    match parse(field) {
-        Some(n) => Ok(n),
-        None => Err(FieldFault {
-            refusal: Refusal::Field,
-            place,
-        }),
-    }
+    parse(field).ok_or(FieldFault {
+        refusal: Refusal::Field,
+        place,
+    })
 }
 
 pub fn read_form(letter: u8, place: Place) -> Result<Form, FieldFault>
     ensures { field_risen result ≡ judged (form_checks letter place.line place.column) (form_of letter) }
 {
-    match Form::from_letter(letter as char) {
-        Some(form) => Ok(form),
-        None => Err(FieldFault {
-            refusal: Refusal::Letter,
-            place,
-        }),
-    }
+    Form::from_letter(letter as char).ok_or(FieldFault {
+        refusal: Refusal::Letter,
+        place,
+    })
 }
 
 // The weight whose code the field holds.
-pub fn read_weight<G: Written>(field: &[u8], place: Place) -> Result<G, FieldFault>
-    requires { length field.now ≤ 5 }
+pub fn read_weight<G: Written>(field: &[u8; 5], place: Place) -> Result<G, FieldFault>
     ensures { field_risen result ≡ judged (weight_checks G.coding field.now place.line place.column) (weight_of G.Scale.meaning G.coding field.now) }
 {
     let code = read_number(field, place)?;
@@ -44,11 +36,8 @@ pub fn read_weight<G: Written>(field: &[u8], place: Place) -> Result<G, FieldFau
         refusal: Refusal::WeightCode,
         place,
     };
-    if code > 0xffff {
-        return Err(none);
-    }
-    match G::decode(code as u16) {
-        Some(weight) => Ok(weight),
-        None => Err(none),
-    }
+    u16::try_from(code)
+        .ok()
+        .and_then(|code| G::decode(code))
+        .ok_or(none)
 }

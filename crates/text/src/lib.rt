@@ -4,10 +4,10 @@
 mod decimal;
 mod faults;
 mod fields;
+mod limits;
 mod lines;
 mod loading;
 mod numbered;
-mod placing;
 mod reader;
 mod rows;
 pub mod theorems;

@@ -1,13 +1,13 @@
 // Reading a board text into the tables. The whole text is checked first; then the tables are cleared and filled.
-ghost use Rattle.std.specs.Prelude.{◌≡◌, ◌≤◌, length, drop};
+ghost use Rattle.std.specs.Prelude.{◌≡◌, OnOk};
 ghost use Rattle.pasts.specs.Tables.{tables};
 ghost use Rattle.text.specs.Boards.{placed};
-ghost use Rattle.text.specs.Faults.{judged, Unmet};
+ghost use Rattle.text.specs.Faults.{judged};
 ghost use Rattle.text.specs.Loads.{Loads, Decodes};
 ghost use Rattle.text.specs.Rows.{rows_checks, rules_in};
 
 use crate::faults::{Fault, Place};
-use crate::placing::put;
+use crate::limits::Limits;
 use crate::reader::Reader;
 use crate::rows::{next_header, next_rule};
 use board::{check_lengths, clear};
@@ -15,47 +15,33 @@ use model::Rule;
 use pasts::{Refusal, Statement};
 use scales::Written;
 
-// The lines after the first are `count` rules that the board can take, and nothing follows them.
-fn check_rules<G: Written>(
-    start: Reader,
+// Reads the `count` rules that are left of a text into their places, as far as there are such places: into no places the
+// text is only checked.
+fn read_rules<G: Written>(
+    rest: &[u8],
     count: u16,
-    statements: u16,
-    places: u16,
+    limits: Limits,
+    rules: &mut [Rule<G>],
 ) -> Result<(), Fault>
-    ensures { result ≡ judged (rows_checks G.coding statements places 0 2 count (drop start.entry.at start.entry.text.now)) tt }
+    ensures answer { result ≡ judged (rows_checks G.coding limits.statements limits.places 0 2 count rest.now) tt }
+    ensures placed { OnOk result (rules.new ≡ placed rules.old (rules_in G.Scale.meaning G.coding count rest.now)) }
 {
-    let mut reader = start;
+    let mut reader = Reader::new(rest);
+    let end = count as usize + 2;
     let mut last = 0;
-    for i in 0..count {
-        let read = next_rule::<G>(&mut reader, i as usize + 2, last, statements, places)?;
+    for line in 2..end {
+        let read = next_rule(&mut reader, line, last, limits)?;
+        read.put(rules);
         last = read.mark;
     }
-    if reader.left() > 0 {
+    if !reader.rest().is_empty() {
         let place = Place {
-            line: count as usize + 2,
+            line: end,
             column: 1,
         };
         return Err(Fault::OnBoard(Refusal::Count, place));
     }
     Ok(())
-}
-
-// The rules of a text that was found to be sound come to their places.
-fn fill_rules<G: Written>(start: Reader, count: u16, statements: u16, rules: &mut [Rule<G>])
-    requires few { length rules.old ≤ 4096 }
-    requires sound { Unmet (rows_checks G.coding statements (length rules.old) 0 2 count (drop start.at start.text.now)) }
-    ensures { rules.new ≡ placed rules.old (rules_in G.Scale.meaning G.coding count (drop start.entry.at start.entry.text.now)) }
-{
-    let places = rules.len() as u16;
-    let mut reader = start;
-    let mut last = 0;
-    for i in 0..count {
-        let Ok(read) = next_rule::<G>(&mut reader, i as usize + 2, last, statements, places) else {
-            unreachable()
-        };
-        put(rules, read.mark, read.rule);
-        last = read.mark;
-    }
 }
 
 // The number of rules that the text spells, which are then on a cleared board; or the text's first fault, and the tables
@@ -69,12 +55,16 @@ pub fn load<G: Written>(
     ensures decoded { Decodes G.Scale.meaning G.coding text.now (tables statements.old rules.old) result (tables statements.new rules.new) }
 {
     check_lengths(statements, rules)?;
-    let total = statements.len() as u16;
-    let places = rules.len() as u16;
+    let limits = Limits {
+        statements: statements.len() as u16,
+        places: rules.len() as u16,
+    };
     let mut reader = Reader::new(text);
-    let count = next_header(&mut reader, total, places)?;
-    check_rules::<G>(reader, count, total, places)?;
+    let count = next_header(&mut reader, limits)?;
+    let rest = reader.rest();
+    let mut no_places: [Rule<G>; 0] = [];
+    read_rules(rest, count, limits, &mut no_places)?;
     clear(statements, rules)?;
-    fill_rules(reader, count, total, rules);
+    read_rules(rest, count, limits, rules)?;
     Ok(count)
 }

@@ -1,49 +1,53 @@
 // A place in a lent text, from which its lines are taken one by one.
-ghost use Rattle.std.specs.Prelude.{◌≡◌, ◌-◌, ◌≤◌, length, drop, ◌==◌};
+ghost use Rattle.std.specs.Prelude.{◌≡◌};
 ghost use Rattle.std.specs.Option.{option_map};
 ghost use Rattle.text.specs.Lines.{line as front_line, after};
 
-#[derive(Clone, Copy)]
+use std::marker::Model;
+
+#[derive(Drop)]
 pub struct Reader<'a> {
     text: &'a [u8],
     at: usize,
-    ghost ok: { at ≤ length text.now },
 }
 
-fn is_feed(b: u8) -> bool
-    ensures { result ≡ (b == 10) }
-{
-    b == b'\n'
+// A contract sees a reader as the bytes that are left.
+impl<'a> Model for Reader<'a> {
+    ghost use Rattle.std.specs.Prelude.{ℕ, ◌≤◌, List, length, drop};
+
+    ghost Value = { List ℕ };
+
+    ghost view = { λ r. drop r.at r.text.now };
+
+    ghost invariant = { λ r. r.at ≤ length r.text.now };
 }
 
 impl<'a> Reader<'a> {
     pub fn new(text: &'a [u8]) -> Reader<'a>
-        ensures { drop result.at result.text.now ≡ text.now }
+        ensures { result ≡ text.now }
     {
         Reader { text, at: 0 }
     }
 
-    // The next line without its line feed, if it has `width` bytes before it; else the reader stays.
-    pub fn line(&mut self, width: usize) -> Option<&'a [u8]>
-        ensures line { option_map (λ x. x.now) result ≡ front_line width (drop self.old.at self.old.text.now) }
-        ensures rest { drop self.new.at self.new.text.now ≡ after width (drop self.old.at self.old.text.now) }
+    // What is left of the text.
+    pub fn rest(&self) -> &'a [u8]
+        ensures { result.now ≡ self.now }
     {
-        if self.text.len() - self.at <= width {
-            return None;
-        }
-        if !is_feed(self.text[self.at + width]) {
-            return None;
-        }
-        let start = self.at;
-        self.at = start + width + 1;
-        let text = self.text;
-        Some(&text[start..start + width])
+        &self.text[self.at..]
     }
 
-    // How many bytes are left.
-    pub fn left(&self) -> usize
-        ensures { result ≡ length (drop self.now.at self.now.text.now) }
+    // The next line without its line feed, if it has `W` bytes before it; else the reader stays.
+    pub fn line<const W: usize>(&mut self) -> Option<&'a [u8; W]>
+        ensures line { option_map (λ x. x.now) result ≡ front_line W self.old }
+        ensures rest { self.new ≡ after W self.old }
     {
-        self.text.len() - self.at
+        let rest = self.rest();
+        if rest.get(W) != Some(&b'\n') {
+            return None;
+        }
+        let text = self.text;
+        let at = self.at + W + 1;
+        *self = Reader { text, at };
+        rest.first_chunk()
     }
 }

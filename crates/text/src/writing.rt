@@ -1,5 +1,5 @@
 // Spelling a board into a buffer.
-ghost use Rattle.std.specs.Prelude.{◌≡◌, ◌+◌, ◌*◌, ◌≤◌, [], ◌∷◌, ◌++◌, length, drop};
+ghost use Rattle.std.specs.Prelude.{◌≡◌, ◌+◌, ◌*◌, ◌≤◌, [], ◌∷◌, ◌++◌, length, drop, not, ◌==◌, count_by};
 ghost use Rattle.std.specs.List.{flat_map};
 ghost use Rattle.pasts.specs.Tables.{tables};
 ghost use Rattle.text.specs.Boards.{held, numbered};
@@ -43,15 +43,9 @@ fn write_rule<G: Written>(mark: u16, rule: &Rule<G>, out: &mut [u8])
 
 // How many rules the table holds.
 fn count_rules<G: Written>(rules: &[Rule<G>]) -> usize
-    ensures { result ≡ length (held 1 rules.now) }
+    ensures { result ≡ count_by (λ r. not (r.head == 0)) rules.now }
 {
-    let mut held = 0;
-    for rule in rules {
-        if rule.head != 0 {
-            held += 1;
-        }
-    }
-    held
+    rules.iter().filter(|rule| rule.head != 0).count()
 }
 
 // Writes the lines of the rules at the front of `out`, and leaves the rest alone.
@@ -61,16 +55,15 @@ fn write_rules<G: Written>(rules: &[Rule<G>], out: &mut [u8])
     ensures { out.new ≡ flat_map (row_bytes G.coding) (held 1 rules.now) ++ drop (38 * length (held 1 rules.now)) out.old }
 {
     let mut at = 0;
-    let mut mark: u16 = 0;
-    for rule in rules {
-        mark += 1;
+    for (i, rule) in rules.iter().enumerate() {
         if rule.head != 0 {
-            write_rule(mark, rule, &mut out[at..]);
+            write_rule(i as u16 + 1, rule, &mut out[at..]);
             at += 38;
         }
     }
 }
 
+#[tactic(auto, using(crate::proofs::Holding::held_count))]
 // Spells the board at the front of the buffer, leaves the rest of it alone, and answers the length of the text.
 pub fn write<G: Written>(
     statements: &[Statement<G>],

@@ -4,13 +4,13 @@ use Rattle.text.proofs.decimal.parse.Goals as goal
 
 pub loop-b-preserved : goal.loop-b-preserved
 loop-b-preserved c =
-    let e = goes_on c.args.field.now c.loop-b.b-index c.loop-b.value _ c.loop-b-test.true c.in_ok-value.ensures in
+    let e = goes_on c.args.field.now c.loop-b.b-index c.loop-b.value _ (omega arith) c.in_ok-value.ensures in
     (sym e ∙ c.loop-b.invariant.0, below_more c.loop-b.value _ _ c.loop-b.b-index c.loop-b.invariant.1 c.in_ok-value.ensures, omega arith)
 
 pub returns-in_err-value : goal.returns-in_err-value
 returns-in_err-value c =
-    let e = stops c.args.field.now c.loop-b.b-index c.loop-b.value c.loop-b-test.true c.in_err-value.ensures in
+    let e = stops c.args.field.now c.loop-b.b-index c.loop-b.value (omega arith) c.in_err-value.ensures in
     rw c.from_residual.ensures (sym e ∙ c.loop-b.invariant.0)
 
 pub returns : goal.returns
-returns c = sym (ends c.args.field.now _ c.loop-b.value c.loop-b-test.false) ∙ c.loop-b.invariant.0
+returns c = sym (ends c.args.field.now c.loop-b.b-index c.loop-b.value (omega arith)) ∙ c.loop-b.invariant.0

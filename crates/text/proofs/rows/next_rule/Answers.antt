@@ -1,4 +1,4 @@
-use Rattle.std.proofs.Common.{[], ◌∷◌, take, drop, ap, ◌∙◌}
+use Rattle.std.proofs.Common.{[], ◌∷◌, take, ap, ◌∙◌}
 use Rattle.std.proofs.lemmas.Result.{err_from_is_err_and}
 use Rattle.text.specs.Faults.{judged}
 use Rattle.text.specs.Rows.{whole_check, rule_checks, rule_in}
@@ -8,32 +8,27 @@ use Rattle.text.proofs.rows.next_rule.Goals as goal
 
 pub returns-in_err-bytes : goal.returns-in_err-bytes
 returns-in_err-bytes g c =
-    let rest = drop c.args.reader.now.at c.args.reader.now.text.now in
-    let line = c.args.line in
+    let rest = c.args.reader.now in
+    let line = c.args.number in
     let k = g.G.Written.coding in
     let p = err_from_is_err_and c.from_residual.result c.from_residual.ensures.1 in
     record {
-      read = rw (p.1, p.2) (stops (whole_check 37 line rest ∷ []) (rule_checks k c.args.statements c.args.places c.args.last line (take 37 rest)) (take 37 rest) (rule_in g.G.Scale.meaning k (take 37 rest)) _ c.in_err-bytes.ensures.line);
+      read = rw (p.1, p.2) (stops (whole_check 37 line rest ∷ []) (rule_checks k c.args.limits.statements c.args.limits.places c.args.last line (take 37 rest)) (take 37 rest) (rule_in g.G.Scale.meaning k (take 37 rest)) _ c.in_err-bytes.ensures.line);
       rest = c.in_err-bytes.ensures.rest;
     }
 
-pub read_rule-requires : goal.read_rule-requires
-read_rule-requires g c =
-    let rest = drop c.args.reader.now.at c.args.reader.now.text.now in
-    (taken_is 37 c.args.line rest c.in_ok-bytes.bytes.now c.in_ok-bytes.ensures.line).1
-
 pub returns : goal.returns
 returns g c =
-    let rest = drop c.args.reader.now.at c.args.reader.now.text.now in
-    let line = c.args.line in
+    let rest = c.args.reader.now in
+    let line = c.args.number in
     let k = g.G.Written.coding in
     let m = g.G.Scale.meaning in
     let bytes = c.in_ok-bytes.bytes.now in
     let t = taken_is 37 line rest bytes c.in_ok-bytes.ensures.line in
-    let n = c.args.statements in
-    let p = c.args.places in
+    let n = c.args.limits.statements in
+    let p = c.args.limits.places in
     let l = c.args.last in
     record {
-      read = after (whole_check 37 line rest ∷ []) (rule_checks k n p l line (take 37 rest)) (take 37 rest) bytes (rule_in m k (take 37 rest)) c.in_ok-bytes.ensures.line (c.read_rule.ensures ∙ ap (λ b. judged (rule_checks k n p l line b) (rule_in m k b)) t.0);
+      read = after (whole_check 37 line rest ∷ []) (rule_checks k n p l line (take 37 rest)) (take 37 rest) bytes (rule_in m k (take 37 rest)) c.in_ok-bytes.ensures.line (c.rule.ensures ∙ ap (λ b. judged (rule_checks k n p l line b) (rule_in m k b)) t);
       rest = c.in_ok-bytes.ensures.rest;
     }

@@ -1,6 +1,7 @@
-use Rattle.std.proofs.Common.{◌≡◌, ℕ, ◌+◌, ◌*◌, ◌≤◌, ltb, [], ◌∷◌, ◌++◌, length, drop, Some, None, Ok, sym, ap, ◌∙◌, arith, rules}
+use Rattle.std.proofs.Common.{◌≡◌, ℕ, ◌+◌, ◌*◌, ◌≤◌, not, eqb, ltb, [], ◌∷◌, ◌++◌, length, drop, Some, None, Ok, sym, ap, ◌∙◌, arith, rules}
 use Rattle.std.specs.List.{flat_map}
 use Rattle.std.proofs.lemmas.Bool.{cond-false, le-ltb}
+use Rattle.std.proofs.lemmas.List.Sums.{count_by-le-length}
 use Rattle.pasts.specs.Refusals.{check, first}
 use Rattle.pasts.specs.Tables.{tables, table_checks}
 use Rattle.pasts.specs.declared.refusal.Refusal.TheVariants.{BufferShort}
@@ -9,14 +10,14 @@ use Rattle.pasts.proofs.Outcomes.{first_passed}
 use Rattle.text.specs.Boards.{held}
 use Rattle.text.specs.Loads.{or_length}
 use Rattle.text.specs.Spelling.{header_front, row_bytes}
-use Rattle.text.proofs.Holding.{held_few}
+use Rattle.text.proofs.Holding.{held_count}
 use Rattle.text.proofs.Poured.{pour}
 use Rattle.text.proofs.writing.write.Given.{Over}
 use Rattle.text.proofs.writing.write.Goals as goal
 use Rattle.text.proofs.writing.write.Goals.{After-count_rules-held}
 
 few : (g : Over) (c : After-count_rules-held g) → c.count_rules-held.result ≤ 4096
-few g c = omega (arith, (tables_checked (tables c.args.statements.now c.args.rules.now) (sym c.in_ok-check_tables.ensures)).1.1, held_few 1 c.args.rules.now, c.count_rules-held.ensures)
+few g c = omega (arith, (tables_checked (tables c.args.statements.now c.args.rules.now) (sym c.in_ok-check_tables.ensures)).1.1, count_by-le-length (λ r. not (eqb r.head 0)) c.args.rules.now, c.count_rules-held.ensures)
 
 pub overflow_mul-length : goal.overflow_mul-length
 overflow_mul-length g c = let f = few g c in search rules
@@ -34,7 +35,7 @@ returns g c =
     let k = g.G.Written.coding in
     let xs = held 1 c.args.rules.now in
     let n = length c.args.statements.now in
-    let same = c.count_rules-held.ensures in
+    let same = c.count_rules-held.ensures ∙ sym (held_count 1 c.args.rules.now) in
     let last = check BufferShort (ltb (length buffer) (12 + 38 * length xs)) ∷ [] in
     let none : first (table_checks t ++ last) ≡ None =
     first_passed (table_checks t) last (sym c.in_ok-check_tables.ensures) ∙ cond-false (ltb (length buffer) (12 + 38 * length xs)) (Some BufferShort) None (le-ltb (length buffer) (12 + 38 * length xs) (omega (arith, same, c.if-buffer-length.false))) in

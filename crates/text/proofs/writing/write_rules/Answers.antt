@@ -9,50 +9,47 @@ use Rattle.text.proofs.writing.write_rules.Given.{Over}
 use Rattle.text.proofs.writing.write_rules.Goals as goal
 use Rattle.text.proofs.writing.write_rules.Goals.{then-rule-ne0, else-rule-ne0, Then-rule-ne0}
 
-room : (g : Over) (c : Then-rule-ne0 g) → c.loop-rule.at + 38 ≤ length c.args.out.now
+room : (g : Over) (c : Then-rule-ne0 g) → c.loop-i.at + 38 ≤ length c.args.out.now
 room g c =
-    let r = held_room c.args.rules.now c.loop-rule.rule-index c.rule-item.result c.rule-item.result (omega arith) c.rule-item.is c.if-rule-ne0.true in
-    omega (arith, r, c.loop-rule.invariant.2, c.requires.room)
+    let r = held_room c.args.rules.now c.loop-i.i c.index-rules-i.result c.index-rules-i.result (omega arith) c.index-rules-i.is c.if-rule-ne0.true in
+    omega (arith, r, c.loop-i.invariant.1, c.requires.room)
 
 pub slice_bounds-write_rule-count : goal.slice_bounds-write_rule-count
-slice_bounds-write_rule-count g c = omega (arith, c.loop-rule.invariant.3)
+slice_bounds-write_rule-count g c = omega (arith, c.loop-i.invariant.2)
 
 pub slice_bounds-write_rule-start : goal.slice_bounds-write_rule-start
-slice_bounds-write_rule-start g c = omega (arith, c.loop-rule.invariant.3)
+slice_bounds-write_rule-start g c = omega (arith, c.loop-i.invariant.2)
 
 pub write_rule-requires : goal.write_rule-requires
 write_rule-requires g c = simp (length-take, length-drop) (omega (arith, room g (goal.at.write_rule-requires g c).Then-rule-ne0))
 
-pub loop-rule-preserved : goal.loop-rule-preserved
-loop-rule-preserved g c =
+pub loop-i-preserved : goal.loop-i-preserved
+loop-i-preserved g c =
     let rules = c.args.rules.now in
-    let i = c.loop-rule.rule-index in
-    let r = c.rule-item.result in
+    let i = c.loop-i.i in
+    let r = c.index-rules-i.result in
     let was = c.args.out.now in
     let bytes = row_bytes g.G.Written.coding in
-    let at = c.loop-rule.at in
+    let at = c.loop-i.at in
     elim c.if-rule-ne0.branch [
       | then-rule-ne0 w ↦
-          let e = held_there rules i r r (omega arith) c.rule-item.is w.if-rule-ne0.true in
+          let e = held_there rules i r r (omega arith) c.index-rules-i.is w.if-rule-ne0.true in
           let l = ap length e ∙ length-append (held 1 (take i rules)) (numbered _ r ∷ []) in
-          let q = held_room rules i r r (omega arith) c.rule-item.is w.if-rule-ne0.true in
-          let mk : c.loop-rule.mark + 1 ≡ i + 1 = omega (arith, c.loop-rule.invariant.0) in
-          let y = w.write_rule.ensures ∙ ap (λ k. bytes (numbered k r) ++ drop 38 (take (length c.loop-rule.out - at) (drop at c.loop-rule.out))) mk in
-          let o = pour was c.loop-rule.out (flat_map bytes (held 1 (take i rules))) _ (bytes (numbered (i + 1) r)) at 38 c.loop-rule.auto.out c.loop-rule.invariant.3 c.loop-rule.invariant.4 y in (
-            omega (arith, c.loop-rule.invariant.0),
+          let q = held_room rules i r r (omega arith) c.index-rules-i.is w.if-rule-ne0.true in
+          let y = w.write_rule.ensures in
+          let o = pour was c.loop-i.out (flat_map bytes (held 1 (take i rules))) _ (bytes (numbered (i + 1) r)) at 38 c.loop-i.auto.out c.loop-i.invariant.2 c.loop-i.invariant.3 y in (
             omega arith,
-            omega (arith, l, w.at-is, c.loop-rule.invariant.2),
-            omega (arith, q, w.at-is, c.loop-rule.invariant.2, c.requires.room),
+            omega (arith, l, w.at-is, c.loop-i.invariant.1),
+            omega (arith, q, w.at-is, c.loop-i.invariant.1, c.requires.room),
             w.out-is ∙ (o ∙ (ap (λ x. x ++ drop (at + 38) was) (flat_map_more bytes [] (held 1 (take i rules)) (numbered (i + 1) r) ∙ ap (flat_map bytes) (sym e)) ∙ ap (λ n. flat_map bytes (held 1 (take (i + 1) rules)) ++ drop n was) (sym w.at-is))),
           )
       | else-rule-ne0 w ↦
-          let e = held_blank rules i r r (omega arith) c.rule-item.is w.if-rule-ne0.false in
+          let e = held_blank rules i r r (omega arith) c.index-rules-i.is w.if-rule-ne0.false in
           let l = ap length e in (
-            omega (arith, c.loop-rule.invariant.0),
             omega arith,
-            omega (arith, l, w.at-is, c.loop-rule.invariant.2),
-            omega (arith, w.at-is, c.loop-rule.invariant.3),
-            w.out-is ∙ (c.loop-rule.invariant.4 ∙ (ap (λ xs. flat_map bytes xs ++ drop at was) (sym e) ∙ ap (λ n. flat_map bytes (held 1 (take (i + 1) rules)) ++ drop n was) (sym w.at-is))),
+            omega (arith, l, w.at-is, c.loop-i.invariant.1),
+            omega (arith, w.at-is, c.loop-i.invariant.2),
+            w.out-is ∙ (c.loop-i.invariant.3 ∙ (ap (λ xs. flat_map bytes xs ++ drop at was) (sym e) ∙ ap (λ n. flat_map bytes (held 1 (take (i + 1) rules)) ++ drop n was) (sym w.at-is))),
           )
     ]
 
@@ -61,6 +58,6 @@ returns g c =
     let rules = c.args.rules.now in
     let was = c.args.out.now in
     let bytes = row_bytes g.G.Written.coding in
-    let all : take c.loop-rule.rule-index rules ≡ rules = take_all _ rules c.loop-rule-test.false in
-    let at : c.loop-rule.at ≡ 38 * length (held 1 rules) = c.loop-rule.invariant.2 ∙ ap (λ xs. 38 * length (held 1 xs)) all in
-    c.loop-rule.invariant.4 ∙ (ap (λ xs. flat_map bytes (held 1 xs) ++ drop c.loop-rule.at was) all ∙ ap (λ n. flat_map bytes (held 1 rules) ++ drop n was) at)
+    let all : take c.loop-i.i rules ≡ rules = take_all _ rules c.loop-i-test.false in
+    let at : c.loop-i.at ≡ 38 * length (held 1 rules) = c.loop-i.invariant.1 ∙ ap (λ xs. 38 * length (held 1 xs)) all in
+    c.loop-i.invariant.3 ∙ (ap (λ xs. flat_map bytes (held 1 xs) ++ drop c.loop-i.at was) all ∙ ap (λ n. flat_map bytes (held 1 rules) ++ drop n was) at)

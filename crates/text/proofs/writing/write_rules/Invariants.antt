@@ -4,6 +4,6 @@ use Rattle.text.specs.Boards.{held}
 use Rattle.text.specs.Spelling.{row_bytes}
 use Rattle.text.proofs.writing.write_rules.Given as goal
 
-abbrev pub invariant-loop-rule : goal.invariant-loop-rule
-invariant-loop-rule g l =
-    (l.mark ≡ l.rule-index) × (l.rule-index ≤ length l.rules) × (l.at ≡ 38 * length (held 1 (take l.rule-index l.rules))) × (l.at ≤ length l.initial.out) × (l.out ≡ flat_map (row_bytes g.G.Written.coding) (held 1 (take l.rule-index l.rules)) ++ drop l.at l.initial.out)
+abbrev pub invariant-loop-i : goal.invariant-loop-i
+invariant-loop-i g l =
+    (l.i ≤ length l.rules) × (l.at ≡ 38 * length (held 1 (take l.i l.rules))) × (l.at ≤ length l.initial.out) × (l.out ≡ flat_map (row_bytes g.G.Written.coding) (held 1 (take l.i l.rules)) ++ drop l.at l.initial.out)

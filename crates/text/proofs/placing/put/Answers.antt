@@ -1,6 +1,0 @@
-use Rattle.std.proofs.Common.{sym, arith}
-use Rattle.std.proofs.lemmas.List.{set_past}
-use Rattle.text.proofs.placing.put.Goals as goal
-
-pub returns-else-i-items : goal.returns-else-i-items
-returns-else-i-items g c = sym (set_past c.args.items.now _ _ (omega arith))
