@@ -1,4 +1,5 @@
 pub mod Columns
+pub mod Filled
 pub mod Judged
 pub mod Places
 pub mod Unwritten
