@@ -1,5 +1,3 @@
-pub mod Columns
-pub mod Filled
 pub mod Judged
 pub mod Places
 pub mod Unwritten

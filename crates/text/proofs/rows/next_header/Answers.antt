@@ -1,5 +1,5 @@
 use Rattle.std.proofs.lemmas.Result.{err_from_is_err_and}
-use Rattle.text.proofs.Counts.{no_line, in_due, in_count, past_count}
+use Rattle.text.proofs.Counts.{in_count, past_count}
 use Rattle.text.proofs.rows.next_header.Goals as goal
 
 pub returns-in_err-check_count-clause-read : goal.returns-in_err-check_count-clause-read
