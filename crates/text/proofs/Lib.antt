@@ -24,3 +24,4 @@ pub mod FaultsWorked
 pub mod EachCheck
 pub mod FaultsMet
 pub mod RowsRefused
+pub mod FirstFaults
