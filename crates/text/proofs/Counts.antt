@@ -19,18 +19,12 @@ module _ (n p : ℕ) (text : List ℕ) where
   abbrev All : Result ℕ Fault → Type 0
   All r = r ≡ judged (header_checks n p text) (rule_count text)
 
-  pub no_line : (f : Fault) → Err f ≡ judged (whole_check 11 1 text ∷ []) (take 11 text) → All (Err f)
-  no_line f e = stops (whole_check 11 1 text ∷ []) (counts_checks n p (take 11 text)) (take 11 text) (rule_count text) f e
-
   module _ (bytes : List ℕ) (t : Ok bytes ≡ judged (whole_check 11 1 text ∷ []) (take 11 text)) where
     abbrev Rest : Result ℕ Fault → Type 0
     Rest r = r ≡ judged (counts_checks n p bytes) (number_in bytes 7)
 
     past_line : (r : Result ℕ Fault) → Rest r → All r
     past_line r e = after (whole_check 11 1 text ∷ []) (counts_checks n p (take 11 text)) (take 11 text) bytes (rule_count text) t (e ∙ ap (λ b. judged (counts_checks n p b) (number_in b 7)) (taken_is 11 1 text bytes t))
-
-    pub in_due : (f : Fault) → Err f ≡ judged (dues bytes) (tt {0}) → All (Err f)
-    in_due f e = past_line (Err f) (stops (dues bytes) (ones bytes ++ twos bytes) (tt {0}) (number_in bytes 7) f e)
 
     module _ (d : Ok (tt {0}) ≡ judged (dues bytes) (tt {0})) where
       past_due : (r : Result ℕ Fault) → r ≡ judged (ones bytes ++ twos bytes) (number_in bytes 7) → All r

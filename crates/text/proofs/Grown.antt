@@ -58,15 +58,3 @@ row was m h w p q r s f z lm lh lw lp lq lr ls =
 pub pieces : (m h w p q r s m' h' w' p' q' r' s' rest : List ℕ) (f f' : ℕ) → m ≡ m' → h ≡ h' → f ≡ f' → w ≡ w' → p ≡ p' → q ≡ q' → r ≡ r' → s ≡ s'
     → (82 ∷ []) ++ m ++ h ++ (f ∷ []) ++ w ++ p ++ q ++ r ++ s ++ (10 ∷ []) ++ rest ≡ (82 ∷ []) ++ m' ++ h' ++ (f' ∷ []) ++ w' ++ p' ++ q' ++ r' ++ s' ++ (10 ∷ []) ++ rest
 pieces m h w p q r s m' h' w' p' q' r' s' rest f f' em eh ef ew ep eq er es = cc
-
--- the writes of the first line
-pub header : (was a b : List ℕ) → 12 ≤ length was → length a ≡ 5 → length b ≡ 5
-    → set (put_mid 6 5 (put_mid 1 5 (set was 0 66) a) b) 11 10 ≡ (66 ∷ []) ++ a ++ b ++ (10 ∷ []) ++ drop 12 was
-header was a b z la lb =
-    let g0 = byte was 0 _ _ 66 (omega arith) (none was) in
-    let g1 = part was 1 5 _ _ a (omega arith) la g0 in
-    let g2 = part was 6 5 _ _ b (omega arith) lb g1 in
-    whole was 12 _ _ (byte was 11 _ _ 10 (omega arith) g2)
-
-pub header_pieces : (a b a' b' rest : List ℕ) → a ≡ a' → b ≡ b' → (66 ∷ []) ++ a ++ b ++ (10 ∷ []) ++ rest ≡ (66 ∷ []) ++ a' ++ b' ++ (10 ∷ []) ++ rest
-header_pieces a b a' b' rest ea eb = cc

@@ -1,4 +1,3 @@
-pub mod Columns
 pub mod Judged
 pub mod Places
 pub mod Unwritten

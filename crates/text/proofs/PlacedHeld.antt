@@ -44,10 +44,6 @@ module _ {G : Type 0} (m : Meaning G) where
       (cases_lt j p)
 
   module _ (n p : ℕ) where
-    pub placed_length : (rules : List (Rule G)) (xs : List (Numbered G)) → length (placed rules xs) ≡ length rules
-    placed_length rules [] = refl
-    placed_length rules (x ∷ xs) = placed_length (set rules (x.mark - 1) x.rule) xs ∙ length-set rules (x.mark - 1) x.rule
-
     pub placed_held : (last : ℕ) (rules : List (Rule G)) (xs : List (Numbered G)) → length rules ≡ p → BlankFrom last rules → Fits n p last xs → held 1 (placed rules xs) ≡ held 1 rules ++ xs
     placed_held last rules [] l b f = sym (append-nil (held 1 rules))
     placed_held last rules (x ∷ xs) l b f =

@@ -44,11 +44,10 @@ pub fn write_number(n: u32, out: &mut [u8])
     requires { length out.old ≡ 5 }
     ensures { out.new ≡ written n }
 {
-    out.copy_from_slice(&[
-        digit(n, 10000),
-        digit(n, 1000),
-        digit(n, 100),
-        digit(n, 10),
-        b'0' + (n % 10) as u8,
-    ]);
+    // a copy out of an array of the five takes twice as long
+    out[0] = digit(n, 10000);
+    out[1] = digit(n, 1000);
+    out[2] = digit(n, 100);
+    out[3] = digit(n, 10);
+    out[4] = b'0' + (n % 10) as u8;
 }

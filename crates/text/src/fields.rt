@@ -12,10 +12,14 @@ use scales::Written;
 pub fn read_number(field: &[u8; 5], place: Place) -> Result<u32, FieldFault>
     ensures { field_risen result ≡ judged (number_checks field.now place.line place.column) (number_of field.now) }
 {
-    parse(field).ok_or(FieldFault {
-        refusal: Refusal::Field,
-        place,
-    })
+    // with ok_or in place of the match a load takes half as long again
+    match parse(field) {
+        Some(number) => Ok(number),
+        None => Err(FieldFault {
+            refusal: Refusal::Field,
+            place,
+        }),
+    }
 }
 
 pub fn read_form(letter: u8, place: Place) -> Result<Form, FieldFault>
@@ -32,12 +36,11 @@ pub fn read_weight<G: Written>(field: &[u8; 5], place: Place) -> Result<G, Field
     ensures { field_risen result ≡ judged (weight_checks G.coding field.now place.line place.column) (weight_of G.Scale.meaning G.coding field.now) }
 {
     let code = read_number(field, place)?;
-    let none = FieldFault {
-        refusal: Refusal::WeightCode,
-        place,
-    };
     u16::try_from(code)
         .ok()
         .and_then(|code| G::decode(code))
-        .ok_or(none)
+        .ok_or(FieldFault {
+            refusal: Refusal::WeightCode,
+            place,
+        })
 }

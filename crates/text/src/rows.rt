@@ -90,6 +90,7 @@ impl Line<'_, ROW> {
         Ok(body as u16)
     }
 
+    // One by one: no proof knows what a closure returns that changes what it captures, as whether the last was absent.
     fn bodies(&self, statements: u16) -> Result<[u16; 4], Fault>
         ensures { result ≡ judged (bodies_checks statements self.now.number self.now.bytes.now) (bodies_in self.now.bytes.now) }
     {

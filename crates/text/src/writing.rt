@@ -29,6 +29,7 @@ fn write_rule<G: Written>(mark: u16, rule: &Rule<G>, out: &mut [u8])
     ensures { out.new ≡ row_bytes G.coding (numbered mark rule.now) ++ drop 38 out.old }
 {
     let bodies = rule.bodies;
+    // each field at its columns: of what chunks_exact_mut lends no proof knows what was written
     out[0] = b'R';
     write_number(mark as u32, &mut out[1..6]);
     write_number(rule.head as u32, &mut out[6..11]);
@@ -54,6 +55,7 @@ fn write_rules<G: Written>(rules: &[Rule<G>], out: &mut [u8])
     requires room { 38 * length (held 1 rules.now) ≤ length out.old }
     ensures { out.new ≡ flat_map (row_bytes G.coding) (held 1 rules.now) ++ drop (38 * length (held 1 rules.now)) out.old }
 {
+    // counted in bytes, for the same reason
     let mut at = 0;
     for (i, rule) in rules.iter().enumerate() {
         if rule.head != 0 {

@@ -30,23 +30,3 @@ loop-line-preserved g c =
       answer = sym (goes_on m k n p c.loop-line.last c.loop-line.line end c.loop-line.reader next c.in_ok-read.read c.loop-line-test.true read moved) ∙ c.loop-line.invariant.answer;
       placed = ap (λ rules. placed rules (rules_in m k (end - (c.loop-line.line + 1)) next)) c.put.ensures ∙ (placed_on m k n p c.loop-line.last c.loop-line.line end c.loop-line.reader next c.in_ok-read.read c.loop-line-test.true read moved c.loop-line.rules ∙ c.loop-line.invariant.placed);
     }
-
-pub loop-line-init : goal.loop-line-init
-loop-line-init g c =
-    let z : c.args.count + 2 - 2 ≡ c.args.count = omega arith in
-    rw (z, c.new-reader.ensures) (record { answer = refl; placed = refl })
-
-pub returns-then-not-is_empty-clause-answer : goal.returns-then-not-is_empty-clause-answer
-returns-then-not-is_empty-clause-answer g c =
-    let h : 0 < length c.loop-line.reader = grind (arith, nat_tests) in
-    bytes_follow c.loop-line.reader _ h ∙ (sym (ap (λ cs. judged cs (tt {0})) (at_end g.G.Scale.meaning g.G.Written.coding c.args.limits.statements c.args.limits.places c.loop-line.last c.loop-line.line (c.args.count + 2) c.loop-line.reader (omega arith))) ∙ c.loop-line.invariant.answer)
-
-pub returns-clause-answer : goal.returns-clause-answer
-returns-clause-answer g c =
-    let h : length c.loop-line.reader ≤ 0 = grind (arith, nat_tests) in
-    none_follow c.loop-line.reader _ h ∙ (sym (ap (λ cs. judged cs (tt {0})) (at_end g.G.Scale.meaning g.G.Written.coding c.args.limits.statements c.args.limits.places c.loop-line.last c.loop-line.line (c.args.count + 2) c.loop-line.reader (omega arith))) ∙ c.loop-line.invariant.answer)
-
-pub returns-clause-placed : goal.returns-clause-placed
-returns-clause-placed g c =
-    let z : c.args.count + 2 - c.loop-line.line ≡ 0 = omega (arith, c.loop-line-test.false) in
-    rw z at c.loop-line.invariant.placed

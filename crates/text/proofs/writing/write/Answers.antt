@@ -16,18 +16,6 @@ use Rattle.text.proofs.writing.write.Given.{Over}
 use Rattle.text.proofs.writing.write.Goals as goal
 use Rattle.text.proofs.writing.write.Goals.{After-count_rules-held}
 
-few : (g : Over) (c : After-count_rules-held g) → c.count_rules-held.result ≤ 4096
-few g c = omega (arith, (tables_checked (tables c.args.statements.now c.args.rules.now) (sym c.in_ok-check_tables.ensures)).1.1, count_by-le-length (λ r. not (eqb r.head 0)) c.args.rules.now, c.count_rules-held.ensures)
-
-pub overflow_mul-length : goal.overflow_mul-length
-overflow_mul-length g c = let f = few g c in search rules
-
-pub overflow_add-length : goal.overflow_add-length
-overflow_add-length g c = let f = few g c in search rules
-
-pub overflow_cast-held : goal.overflow_cast-held
-overflow_cast-held g c = let f = few g (goal.at.overflow_cast-held g c).After-count_rules-held in search rules
-
 pub returns : goal.returns
 returns g c =
     let t = tables c.args.statements.now c.args.rules.now in

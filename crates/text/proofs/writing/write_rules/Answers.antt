@@ -14,12 +14,6 @@ room g c =
     let r = held_room c.args.rules.now c.loop-i.i c.index-rules-i.result c.index-rules-i.result (omega arith) c.index-rules-i.is c.if-rule-ne0.true in
     omega (arith, r, c.loop-i.invariant.1, c.requires.room)
 
-pub slice_bounds-write_rule-count : goal.slice_bounds-write_rule-count
-slice_bounds-write_rule-count g c = omega (arith, c.loop-i.invariant.2)
-
-pub slice_bounds-write_rule-start : goal.slice_bounds-write_rule-start
-slice_bounds-write_rule-start g c = omega (arith, c.loop-i.invariant.2)
-
 pub write_rule-requires : goal.write_rule-requires
 write_rule-requires g c = simp (length-take, length-drop) (omega (arith, room g (goal.at.write_rule-requires g c).Then-rule-ne0))
 
@@ -52,12 +46,3 @@ loop-i-preserved g c =
             w.out-is ∙ (c.loop-i.invariant.3 ∙ (ap (λ xs. flat_map bytes xs ++ drop at was) (sym e) ∙ ap (λ n. flat_map bytes (held 1 (take (i + 1) rules)) ++ drop n was) (sym w.at-is))),
           )
     ]
-
-pub returns : goal.returns
-returns g c =
-    let rules = c.args.rules.now in
-    let was = c.args.out.now in
-    let bytes = row_bytes g.G.Written.coding in
-    let all : take c.loop-i.i rules ≡ rules = take_all _ rules c.loop-i-test.false in
-    let at : c.loop-i.at ≡ 38 * length (held 1 rules) = c.loop-i.invariant.1 ∙ ap (λ xs. 38 * length (held 1 xs)) all in
-    c.loop-i.invariant.3 ∙ (ap (λ xs. flat_map bytes (held 1 xs) ++ drop c.loop-i.at was) all ∙ ap (λ n. flat_map bytes (held 1 rules) ++ drop n was) at)

@@ -2,11 +2,6 @@ use Rattle.std.proofs.lemmas.Result.{err_from_is_err_and}
 use Rattle.text.proofs.RuleLines.{in_due, in_mark, in_head, in_form, in_weight, in_bodies, read}
 use Rattle.text.proofs.rows.Line+ROW.rule.Goals as goal
 
-pub returns-in_err-check_due : goal.returns-in_err-check_due
-returns-in_err-check_due g c =
-    let p = err_from_is_err_and c.from_residual.result c.from_residual.ensures.1 in
-    rw (p.1, p.2) (in_due g.G.Scale.meaning g.G.Written.coding c.args.limits.statements c.args.limits.places c.args.last c.args.self.now.number c.args.self.now.bytes.now _ c.in_err-check_due.ensures)
-
 pub returns-in_err-mark : goal.returns-in_err-mark
 returns-in_err-mark g c =
     let p = err_from_is_err_and c.from_residual-in_err-mark.result c.from_residual-in_err-mark.ensures.1 in
