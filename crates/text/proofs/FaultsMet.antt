@@ -18,14 +18,14 @@ use Rattle.text.specs.Lines.{cut}
 use Rattle.text.specs.Rows.{number_in, header_checks, rule_checks, row_checks, rows_checks, rule_count, text_checks, body_checks, bodies_checks}
 use Rattle.text.specs.declared.faults.Layer.TheVariants.{Board}
 use Rattle.text.specs.declared.faults.Report.{Report}
-use Rattle.text.proofs.EachCheck.{Each, each_both, each_first}
+use Rattle.text.proofs.EachCheck.{Each, each_both, until_first}
 use Rattle.text.proofs.FieldsSpelled.{number_spelled, form_back}
 use Rattle.text.proofs.Numbers.{reads_back}
 use Rattle.text.proofs.TextsSpelled.{line_width}
 
 -- a number field
 module _ (bytes : List ℕ) (column : ℕ) where
-  no_number : not (is_some (parsed (take 5 (drop (column - 1) bytes)))) ≡ true → (v : ℕ) → Spells bytes column v → ⊥
+  pub no_number : not (is_some (parsed (take 5 (drop (column - 1) bytes)))) ≡ true → (v : ℕ) → Spells bytes column v → ⊥
   no_number e v s =
       both_ways _ (ap (λ (l : List ℕ). not (is_some (parsed l))) s.1 ∙ ap (λ o. not (is_some o)) (reads_back v s.0)) e
 
@@ -97,11 +97,11 @@ module _ {G : Type 0} {m : Meaning G} {c : Coding G} (codes : Codes m c 65535) (
 
       each_bodies : Each Row (bodies_checks n line bytes)
       each_bodies =
-          each_both Row (body_checks n line 18 false bytes) last_three each_first_body
+          each_both Row (Unit {0}) (body_checks n line 18 false bytes) last_three each_first_body
           (λ u.
-          each_both Row (body_checks n line 23 (eqb (number_in bytes 18) 0) bytes) last_two (each_body 23 (number_in bytes 18) (later (later (later (later first)))) (later first) (omega arith) (omega arith) (says 18 (omega arith) u.0))
+          each_both Row (Unit {0}) (body_checks n line 23 (eqb (number_in bytes 18) 0) bytes) last_two (each_body 23 (number_in bytes 18) (later (later (later (later first)))) (later first) (omega arith) (omega arith) (says 18 (omega arith) u.0))
           (λ v.
-          each_both Row (body_checks n line 28 (eqb (number_in bytes 23) 0) bytes) last_body (each_body 28 (number_in bytes 23) (later (later (later (later (later first))))) (later (later first)) (omega arith) (omega arith) (says 23 (omega arith) v.0))
+          each_both Row (Unit {0}) (body_checks n line 28 (eqb (number_in bytes 23) 0) bytes) last_body (each_body 28 (number_in bytes 23) (later (later (later (later (later first))))) (later (later first)) (omega arith) (omega arith) (says 23 (omega arith) v.0))
           (λ w. each_body 33 (number_in bytes 28) (later (later (later (later (later (later first)))))) (later (later (later first))) (omega arith) (omega arith) (says 28 (omega arith) w.0))))
 
       order : (last : ℕ) → Before line last → outside p (number_in bytes 2) ≡ false → Spells bytes 2 (number_in bytes 2) → leb (number_in bytes 2) last ≡ true → FaultRow c n p text 15 Board line 2
@@ -153,7 +153,7 @@ module _ {G : Type 0} {m : Meaning G} {c : Coding G} (codes : Codes m c 65535) (
         let due : Due text line = record { rules = k; said = counts; from = h; to = omega arith } in
         let mark = number_in (rule_line line text) 2 in
         let rest = at_line line text in
-        each_both Row (row_checks c n p last line rest) (rows_checks c n p mark (line + 1) j (drop 38 rest)) (each_row line due last b)
+        each_both Row (Unit {0}) (row_checks c n p last line rest) (rows_checks c n p mark (line + 1) j (drop 38 rest)) (each_row line due last b)
         (λ u.
         let back : line ≡ line + 1 - 1 = omega arith in
         let s : Spells (rule_line line text) 2 mark = says line due (line_width 37 rest u.0) 2 (omega arith) u.1.1.0 in
@@ -186,7 +186,7 @@ module _ {G : Type 0} {m : Meaning G} {c : Coding G} (codes : Codes m c 65535) (
   each_text = (
     λ e. table_length (λ on. both_ways _ (or_from (outside 1024 n) (outside 4096 p) (on_inside 1024 n on.0) (on_inside 4096 p on.1)) e),
     λ _.
-        each_both Row (header_checks n p text) (rows_checks c n p 0 2 (rule_count text) (drop 12 text)) each_header
+        each_both Row (Unit {0}) (header_checks n p text) (rows_checks c n p 0 2 (rule_count text) (drop 12 text)) each_header
         (λ u. each_rows (rule_count text) (header_says 7 (omega arith) (line_width 11 text u.0) u.1.1.1.1.0) 0 2 (rule_count text) (omega arith) (omega arith) (inl (refl, refl))),
   )
 
@@ -194,4 +194,4 @@ module _ {G : Type 0} {m : Meaning G} {c : Coding G} (codes : Codes m c 65535) w
   pub faults_are_rows : FaultsAreRows m c
   faults_are_rows text t u f l =
       let r = l.refused f refl in
-      (r.0, each_first (Row codes (count t) (length t.rules) text) (each_text codes (count t) (length t.rules) text) r.1)
+      (r.0, until_first (Row codes (count t) (length t.rules) text) (Unit {0}) (each_text codes (count t) (length t.rules) text) r.1)

@@ -23,3 +23,4 @@ pub mod FaultsWorked
 pub mod EachCheck
 pub mod FaultsMet
 pub mod RowsRefused
+pub mod FirstFaults

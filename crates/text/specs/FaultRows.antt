@@ -9,6 +9,9 @@
 --     FaultRow c n p text k layer line column    that row of the table of refusals holds of the text over n statements and p places
 --     FaultsAreRows m c           a refused load leaves the tables, and the row of its fault holds
 --     RowsAreRefused m c          where a row holds of the text the load is refused
+--     NotAfter line column k l c j    the fault k at the line and column comes no later than the fault j at the line l and column c: it is
+--                                 in a line above, or in the same line to the left, or at the same place with k at most j
+--     FaultsAreFirst m c          the fault of a refused load comes no later than any row that holds
 use Rattle.std.specs.Prelude.{◌≡◌, ℕ, ◌+◌, ◌-◌, ◌*◌, ◌<◌, ◌≤◌, ◌⊎◌, List, [], ◌∷◌, length, take, drop, Err, Result, ◌≢◌, slice_index}
 use Rattle.scales.specs.Meaning.{Meaning}
 use Rattle.scales.specs.Codes.{Coding}
@@ -72,6 +75,9 @@ module _ {G : Type 0} (c : Coding G) (n p : ℕ) (text : List ℕ) where
     bytes_follow : {line v : ℕ} → Spells (first_line text) 7 v → line ≡ v + 2 → 1 ≤ length (at_line line text) → FaultRow 14 Board line 1
     mark_order : {line v w : ℕ} → Due text line → 3 ≤ line → Spells (rule_line (line - 1) text) 2 w → Spells (rule_line line text) 2 v → v ≤ w → FaultRow 15 Board line 2
 
+abbrev pub NotAfter : ℕ → ℕ → ℕ → ℕ → ℕ → ℕ → Type 0
+NotAfter line column k l c j = (line < l) ⊎ ((line ≡ l) × ((column < c) ⊎ ((column ≡ c) × (k ≤ j))))
+
 module _ {G : Type 0} (m : Meaning G) (c : Coding G) where
   abbrev pub FaultsAreRows : Type 0
   FaultsAreRows =
@@ -82,3 +88,8 @@ module _ {G : Type 0} (m : Meaning G) (c : Coding G) where
   RowsAreRefused =
       (text : List ℕ) (t u : Tables G) (r : Result ℕ Fault) (k : ℕ) (layer : Layer) (line column : ℕ) → Loads m c text t r u
       → FaultRow c (count t) (length t.rules) text k layer line column → (f : Fault) × (r ≡ Err f)
+
+  abbrev pub FaultsAreFirst : Type 0
+  FaultsAreFirst =
+      (text : List ℕ) (t u : Tables G) (f : Fault) (k : ℕ) (layer : Layer) (line column : ℕ) → Loads m c text t (Err f) u
+      → FaultRow c (count t) (length t.rules) text k layer line column → NotAfter (report f).place.line (report f).place.column (number (report f).refusal) line column k

@@ -1,7 +1,7 @@
 // The theorems of board text, each as the contract of a function over any written scale. Without its proof the crate is
 // refused.
 ghost use Rattle.std.specs.Prelude.{ℕ};
-ghost use Rattle.text.specs.FaultRows.{FaultsAreRows, RowsAreRefused};
+ghost use Rattle.text.specs.FaultRows.{FaultsAreFirst, FaultsAreRows, RowsAreRefused};
 ghost use Rattle.text.specs.Promises.{SampleLine, NumbersAreOne, LoadHasOneOutcome, OneSpelling, LoadAfterWrite, WriteAfterLoad, LoadedPast};
 ghost use Rattle.text.specs.WorkedFaults.{WorkedFaults, OrderOfFaults};
 
@@ -25,6 +25,11 @@ pub fn faults_are_rows<G: Written>()
 // Where a row of the table of refusals holds of a text, its load is refused.
 pub fn rows_are_refused<G: Written>()
     ensures { RowsAreRefused G.Scale.meaning G.coding }
+{}
+
+// The fault of a refused load comes first of the rows that hold: by line, then by column, then by number.
+pub fn faults_are_first<G: Written>()
+    ensures { FaultsAreFirst G.Scale.meaning G.coding }
 {}
 
 // Two texts that load to the same rules are the same text.
