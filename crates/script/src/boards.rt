@@ -47,15 +47,15 @@ fn ramp(heap: Global, line: &[u8]) -> Result<Ramp, ScriptError> {
             far: 0,
         });
     };
-    let near = reading_field(words.next().unwrap_or(&[]))?;
-    let far = reading_field(words.next().unwrap_or(&[]))?;
+    let near = words.next().unwrap_or(&[]);
+    let far = words.next().unwrap_or(&[]);
     let readings = words
         .map(|word| -> Result<u16, ScriptError> { Ok(reading_field(word)?) })
         .try_collect(heap)?;
     Ok(Ramp {
         readings,
-        near,
-        far,
+        near: reading_field(near)?,
+        far: reading_field(far)?,
     })
 }
 

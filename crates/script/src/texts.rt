@@ -45,7 +45,7 @@ pub fn load_line<G: Written, V>(
     Ok(Loaded { answer, note })
 }
 
-// The board as text, or why it is not written.
+// The board as text, or why it is not written. `write` spells into a buffer that it is lent.
 pub fn write_line<G: Written, V>(heap: Global, desk: &Desk<G, V>) -> Result<String, AllocError> {
     let room = desk.rules.len().saturating_mul(38).saturating_add(12);
     let mut buffer = vec![in heap; 0u8; room]?;
