@@ -8,8 +8,7 @@ use Rattle.scales.specs.Meaning.{Meaning}
 use Rattle.index.specs.Words.{digit, Has, trimmed}
 use Rattle.index.proofs.Digits.{below_lowest, trim_others, digit_none}
 use Rattle.pasts.specs.Marks.{active, answered}
-use Rattle.pasts.specs.Tables.{unopened, told}
-use Rattle.pasts.specs.declared.statement.Event.{Event}
+use Rattle.pasts.specs.Tables.{unopened}
 use Rattle.pasts.specs.declared.statement.Event.TheVariants.{Taken}
 use Rattle.pasts.specs.declared.statement.Mark.{Mark}
 use Rattle.pasts.specs.declared.statement.Mark.TheVariants.{Unopened, Quiet, Active}
@@ -89,11 +88,3 @@ none_in words e i has =
     let zero : get_or words (i / 64) 0 ≡ 0 = ap (λ l. get_or l (i / 64) 0) e ∙ ⊎_elim (λ h. get_or-replicate 16 (i / 64) 0 0 h) (λ h. get_or_past (replicate 16 0) (i / 64) 0 (rw length-replicate h)) (cases_lt (i / 64) 16) in
     let none = ap (digit (i % 64)) zero ∙ digit_none (i % 64) in
     omega arith
-
--- a statement whose mark has answered
-pub retold : {G : Type 0} (e : Event) (x y : Statement G) (k : Mark) → x ≡ y → k ≡ answered x.mark e → ◌≡◌ {A = Statement G} (record { grade = x.grade; mark = k }) (told e y)
-retold {G} e x y k is a = let f : Mark → Statement G = λ v. record { grade = x.grade; mark = v } in ap f a ∙ ap (told e) is
-
--- and one that keeps it
-pub retold_same : {G : Type 0} (e : Event) (x y : Statement G) → x ≡ y → answered x.mark e ≡ x.mark → told e y ≡ y
-retold_same {G} e x y is a = let f : Mark → Statement G = λ v. record { grade = x.grade; mark = v } in ap (told e) (sym is) ∙ ap f a ∙ is

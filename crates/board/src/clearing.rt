@@ -4,7 +4,6 @@ ghost use Rattle.pasts.specs.Tables.{tables};
 ghost use Rattle.pasts.specs.Calls.{Clears};
 ghost use Rattle.board.specs.Answers.{refusal_of};
 
-use crate::blanks::{blank_place, unopened_statement};
 use crate::checking::check_lengths;
 use model::Rule;
 use pasts::{Refusal, Statement};
@@ -27,7 +26,7 @@ pub fn clear<G: Scale>(
     ensures { Clears G.meaning (tables statements.old rules.old) (refusal_of result) (tables statements.new rules.new) }
 {
     check_lengths(statements, rules)?;
-    fill(statements, unopened_statement());
-    fill(rules, blank_place());
+    fill(statements, Statement::unopened());
+    fill(rules, Rule::blank());
     Ok(())
 }

@@ -8,7 +8,6 @@ ghost use Rattle.board.specs.Flags.{flagged, fallen, Leading, Falls};
 use crate::chaining::FEW;
 use crate::checking::MOST_PLACES;
 use crate::leading::flag_leading;
-use crate::marking::{is_open, respond};
 use crate::reaching::flag_by_chains;
 use model::Rule;
 use pasts::{Event, Statement};
@@ -18,9 +17,9 @@ use scales::Scale;
 fn lowered<G: Scale>(x: Statement<G>, leads: bool) -> Statement<G>
     ensures { result ≡ fallen G.meaning leads x }
 {
-    if leads && is_open(x.mark) {
+    if leads && x.mark.is_open() {
         let grade = G::lowest();
-        let mark = respond(x.mark, Event::SonRose);
+        let mark = x.mark.after(Event::SonRose);
         return Statement { grade, mark };
     }
     x

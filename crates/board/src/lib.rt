@@ -10,7 +10,6 @@ mod falling;
 mod finishing;
 mod following;
 mod leading;
-mod marking;
 mod noting;
 mod numbered;
 mod performing;

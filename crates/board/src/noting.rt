@@ -7,7 +7,6 @@ ghost use Rattle.board.specs.Advances.{Picks};
 ghost use Rattle.board.specs.Indexed.{Noted, Resting};
 
 use crate::blanks::statement_at;
-use crate::marking::{is_active, respond, same_mark};
 use crate::numbered::put;
 use index::{insert, lowest, trim};
 use pasts::{Event, Statement};
@@ -19,7 +18,7 @@ pub(crate) fn note_active<G: Scale>(statements: &[Statement<G>], words: &mut [u6
     ensures { Noted G.meaning words.new statements.now }
 {
     for (i, x) in statements.iter().enumerate() {
-        if is_active(x.mark) {
+        if x.mark.is_active() {
             insert(words, i);
         }
     }
@@ -38,14 +37,13 @@ pub(crate) fn tell_noted<G: Scale>(
     ensures hears { statements.new ≡ slice_set statements.old (s - 1) (told event (entered G.meaning statements.old s)) }
     ensures noted { Noted G.meaning words.new statements.new }
 {
-    let x = statement_at(statements, s);
-    let mark = respond(x.mark, event);
-    if same_mark(mark, x.mark) {
+    let before = statement_at(statements, s);
+    let after = before.told(event);
+    if after.mark == before.mark {
         return;
     }
-    let grade = x.grade;
-    put(statements, s, Statement { grade, mark });
-    if is_active(mark) {
+    put(statements, s, after);
+    if after.mark.is_active() {
         insert(words, s as usize - 1);
     }
 }
@@ -62,7 +60,7 @@ fn lowest_in<G: Scale>(statements: &[Statement<G>], words: &mut [u64], q: usize)
 {
     while words[q] != 0 {
         let i = 64 * q + lowest(words[q]) as usize;
-        if i < statements.len() && is_active(statements[i].mark) {
+        if i < statements.len() && statements[i].mark.is_active() {
             return Some(i as u16 + 1);
         }
         words[q] = trim(words[q]);

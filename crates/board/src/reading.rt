@@ -8,7 +8,6 @@ ghost use Rattle.board.specs.Answers.{refusal_of, graded};
 
 use crate::blanks::statement_at;
 use crate::checking::{check_statement, check_tables};
-use crate::marking::is_open;
 use crate::stepping::next_active;
 use crate::valuing::grade_of;
 use model::Rule;
@@ -24,7 +23,7 @@ fn check_read<G: Scale>(
     ensures { refusal_of result ≡ first (call_checks G.meaning (Read s) (tables statements.now rules.now)) }
 {
     check_statement(statements, s)?;
-    if !is_open(statement_at(statements, s).mark) {
+    if !statement_at(statements, s).mark.is_open() {
         return Err(Refusal::NotOpen);
     }
     Ok(())

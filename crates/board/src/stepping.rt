@@ -11,7 +11,6 @@ ghost use Rattle.board.specs.Advances.{Picks, risen, advanced};
 
 use crate::blanks::statement_at;
 use crate::checking::check_tables;
-use crate::marking::{is_active, respond};
 use crate::numbered::put;
 use crate::telling::{open_sons, tell_parents};
 use crate::valuing::grade_of;
@@ -27,7 +26,7 @@ pub(crate) fn next_active<G: Scale>(statements: &[Statement<G>]) -> Option<u16>
     ensures { Picks G.meaning statements.now result }
 {
     for (i, x) in statements.iter().enumerate() {
-        if is_active(x.mark) {
+        if x.mark.is_active() {
             return Some(i as u16 + 1);
         }
     }
@@ -39,7 +38,7 @@ pub(crate) fn take<G: Scale>(statements: &mut [Statement<G>], s: u16, grade: G)
     requires { 1 ≤ s }
     ensures { statements.new ≡ set statements.old (s - 1) (record { grade = grade; mark = answered (entered G.meaning statements.old s).mark Taken }) }
 {
-    let mark = respond(statement_at(statements, s).mark, Event::Taken);
+    let mark = statement_at(statements, s).mark.after(Event::Taken);
     put(statements, s, Statement { grade, mark });
 }
 

@@ -6,7 +6,6 @@ ghost use Rattle.pasts.specs.declared.statement.Event.TheVariants.{Opened, SonRo
 ghost use Rattle.board.specs.Telling.{sons, parents, all_told};
 
 use crate::blanks::statement_at;
-use crate::marking::respond;
 use crate::numbered::put;
 use model::Rule;
 use pasts::{Event, Statement};
@@ -17,10 +16,7 @@ pub(crate) fn tell<G: Scale>(statements: &mut [Statement<G>], s: u16, event: Eve
     requires { 1 ≤ s }
     ensures { statements.new ≡ slice_set statements.old (s - 1) (told event (entered G.meaning statements.old s)) }
 {
-    let x = statement_at(statements, s);
-    let mark = respond(x.mark, event);
-    let grade = x.grade;
-    put(statements, s, Statement { grade, mark });
+    put(statements, s, statement_at(statements, s).told(event));
 }
 
 // The bodies that are there are opened.

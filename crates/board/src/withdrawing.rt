@@ -7,7 +7,7 @@ ghost use Rattle.pasts.specs.declared.call.Answer.TheVariants.{Withdrawn};
 ghost use Rattle.pasts.specs.declared.call.Call.TheVariants.{Withdraw};
 ghost use Rattle.board.specs.Answers.{refusal_of, said};
 
-use crate::blanks::{blank_place, head_at};
+use crate::blanks::head_at;
 use crate::checking::{check_tables, outside};
 use crate::falling::fall_from;
 use crate::numbered::put;
@@ -44,6 +44,6 @@ pub fn withdraw<G: Scale>(
     check_withdraw(statements, rules, k)?;
     let head = head_at(rules, k);
     fall_from(statements, rules, head);
-    put(rules, k, blank_place());
+    put(rules, k, Rule::blank());
     Ok(())
 }

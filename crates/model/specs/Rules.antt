@@ -1,4 +1,5 @@
 -- What rules say of a board's statements under given grades. Assumes nothing.
+--     blank m                     a place with no rule
 --     present bs                  the bodies of a rule that are there: those that are not 0
 --     holds bs t                  t is one of bs
 --     folds grade op g bs         the grades of bs taken into g by the operation, from the left, each as right operand
@@ -13,6 +14,10 @@ use Rattle.scales.specs.Meaning.{Meaning}
 use Rattle.model.specs.declared.rule.Form.{Form}
 use Rattle.model.specs.declared.rule.Form.TheVariants.{All, Any, Chain}
 use Rattle.model.specs.declared.rule.Rule.{Rule}
+
+module _ {G : Type 0} (m : Meaning G) where
+  abbrev pub blank : Rule G
+  blank = record { head = 0; form = All; weight = m.lowest; bodies = 0 ∷ 0 ∷ 0 ∷ 0 ∷ [] }
 
 abbrev pub present : List ℕ → List ℕ
 present [] = []

@@ -1,6 +1,9 @@
 // A rule, and the forms that it can have.
 ghost use Rattle.std.specs.Prelude.{◌≡◌};
 ghost use Rattle.model.specs.Letters.{letter as spelled, spelled_by};
+ghost use Rattle.model.specs.Rules.{blank};
+
+use scales::Scale;
 
 // How a rule takes the grades of its bodies together: the meet of all, the join of any, or one blended into the next.
 // Board text spells them A, O and L.
@@ -44,4 +47,18 @@ pub struct Rule<G> {
     pub form: Form,
     pub weight: G,
     pub bodies: [u16; 4],
+}
+
+impl<G: Scale> Rule<G> {
+    // A place with no rule.
+    pub fn blank() -> Rule<G>
+        ensures { result ≡ blank G.meaning }
+    {
+        Rule {
+            head: 0,
+            form: Form::All,
+            weight: G::lowest(),
+            bodies: [0; 4],
+        }
+    }
 }

@@ -6,3 +6,4 @@ pub mod Rows
 pub mod Moves
 pub mod Pasts
 pub mod Promises
+pub mod Spoken

@@ -19,7 +19,7 @@
 use Rattle.std.specs.Prelude.{ℕ, ◌-◌, Bool, false, not, ◌&&◌, ◌||◌, List, [], ◌∷◌, ◌++◌, length, replicate, ◌==◌, nat_lt, slice_index_or}
 use Rattle.scales.specs.Meaning.{Meaning}
 use Rattle.model.specs.Formed.{malformed}
-use Rattle.model.specs.declared.rule.Form.TheVariants.{All}
+pub use Rattle.model.specs.Rules.{blank}
 use Rattle.model.specs.declared.rule.Rule.{Rule}
 use Rattle.pasts.specs.Marks.{answered, active, open_mark}
 use Rattle.pasts.specs.Refusals.{Check, check, outside}
@@ -64,11 +64,8 @@ module _ {G : Type 0} (m : Meaning G) where
   abbrev pub unopened : Statement G
   unopened = record { grade = m.lowest; mark = Unopened }
 
-  abbrev pub blank : Rule G
-  blank = record { head = 0; form = All; weight = m.lowest; bodies = 0 ∷ 0 ∷ 0 ∷ 0 ∷ [] }
-
   abbrev pub cleared : ℕ → ℕ → Tables G
-  cleared n p = record { statements = replicate n unopened; rules = replicate p blank }
+  cleared n p = record { statements = replicate n unopened; rules = replicate p (blank m) }
 
   abbrev pub entered : List (Statement G) → ℕ → Statement G
   entered xs s = slice_index_or xs (s - 1) unopened
@@ -80,7 +77,7 @@ module _ {G : Type 0} (m : Meaning G) where
   statement t s = entered t.statements s
 
   abbrev pub rule_at : Tables G → ℕ → Rule G
-  rule_at t k = slice_index_or t.rules (k - 1) blank
+  rule_at t k = slice_index_or t.rules (k - 1) (blank m)
 
   abbrev pub grade : Tables G → ℕ → G
   grade t s = (statement t s).grade

@@ -1,6 +1,8 @@
 // The calls on a board, and what they answer.
 use crate::refusal::Refusal;
 use model::Rule;
+use scales::Written;
+use std::fmt;
 
 // `Add(k, rule)` and `Withdraw(k)` go by the mark `k` of a rule, the number of its place; `Want(s)` and `Read(s)` by a
 // statement's number.
@@ -25,6 +27,28 @@ pub enum Answer<G> {
     Finished(u64),
     Graded(G, bool),
     Refused(Refusal),
+}
+
+// What an answer says, a grade by its code.
+impl<G: Written> fmt::Display for Answer<G> {
+    ghost use Rattle.std.specs.Prelude.{Some};
+    ghost use Rattle.pasts.specs.Spoken.{answer_text};
+
+    ghost output = { λ a. Some (answer_text G.coding a) };
+
+    fn fmt<W: fmt::Write>(&self, f: &mut fmt::Formatter<W>) -> fmt::Result {
+        match *self {
+            Answer::Added => f.write_str("added"),
+            Answer::Withdrawn => f.write_str("withdrawn"),
+            Answer::NowWanted => f.write_str("wanted"),
+            Answer::Stepped(s, true) => write!(f, "{s} rose"),
+            Answer::Stepped(s, false) => write!(f, "{s} unchanged"),
+            Answer::Finished(count) => write!(f, "{count} evaluations"),
+            Answer::Graded(grade, true) => write!(f, "{} settled", grade.code()),
+            Answer::Graded(grade, false) => write!(f, "{} unsettled", grade.code()),
+            Answer::Refused(refusal) => write!(f, "{refusal}"),
+        }
+    }
 }
 
 // A call and its answer.

@@ -16,6 +16,6 @@ returns g c =
     let rs = c.args.rules.now in
     let P : List (Statement g.row.G.Denot) → List (Rule g.row.G.Denot) → Type 0 = λ ys qs. Clears g.G.Scale.meaning (tables xs rs) None (tables ys qs) in
     subst₂ P
-    (sym (c.fill.ensures ∙ ap (replicate (length xs)) c.unopened_statement.ensures))
-    (sym (c.fill-2.ensures ∙ ap (replicate (length rs)) c.blank_place.ensures))
+    (sym (c.fill.ensures ∙ ap (replicate (length xs)) c.unopened.ensures))
+    (sym (c.fill-2.ensures ∙ ap (replicate (length rs)) c.blank.ensures))
     (clears (sym c.in_ok-check_lengths.ensures))

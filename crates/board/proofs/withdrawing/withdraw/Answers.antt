@@ -42,7 +42,7 @@ returns g c d =
     let falls = rw c.head_at-head.ensures at c.fall_from.ensures in
     call_done m d t (Withdraw k) Withdrawn (tables c.fall_from.new.statements c.put.new.items) c.in_ok-check_tables.ensures c.in_ok-check_withdraw.ensures
     (withdraws (record {
-      rules = c.put.ensures ∙ ap (set c.args.rules.now (k - 1)) c.blank_place.ensures;
+      rules = c.put.ensures ∙ ap (set c.args.rules.now (k - 1)) c.blank.ensures;
       same_count = falls.same_count;
       falls = falls.falls;
       closed = falls.closed;
