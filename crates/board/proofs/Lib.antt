@@ -11,3 +11,4 @@ pub mod Fallen
 pub mod Exits
 pub mod Checks
 pub mod Logged
+pub mod Places
