@@ -2,28 +2,19 @@
 use Rattle.std.proofs.Common.{◌≡◌, ℕ, zero, suc, ◌-◌, ◌*◌, ◌/◌, ◌%◌, ◌<◌, ◌≤◌, Bool, true, false, cond, not, ◌&&◌, ◌||◌, eqb, ltb, List, [], ◌∷◌, length, get_or, drop, replicate, sym, refl, ap, ◌∙◌, ⊎_elim, arith}
 use Rattle.std.specs.List.{AllByRecursion as All}
 use Rattle.std.proofs.lemmas.List.{ext_get_or, get_or-map, length-replicate, get_or-replicate}
-use Rattle.std.proofs.lemmas.Bool.{both_ways, cases_eq, or_parts, ltb-false, ne_eqb, cond-false}
+use Rattle.std.proofs.lemmas.Bool.{both_ways, cases_eq, or_parts, or_left, or_right, ltb-false, eq-eqb, ne_eqb, cond-false}
 use Rattle.scales.specs.Meaning.{Meaning}
-use Rattle.model.specs.Rules.{holds, joined}
+use Rattle.model.specs.Rules.{holds, son}
 use Rattle.model.specs.Formed.{malformed, malformed_place, body_above, gap}
 use Rattle.model.specs.Least.{On}
 use Rattle.model.specs.declared.rule.Rule.{Rule}
-use Rattle.index.specs.Chains.{place}
 use Rattle.index.specs.Uses.{heads, use_by, uses, used, users, Wide}
-use Rattle.index.proofs.Chains.{at_place}
 use Rattle.index.proofs.Uses.{getD_used, users_positive, holds_users}
 use Rattle.pasts.specs.Tables.{unopened, entered, told}
 use Rattle.pasts.specs.declared.statement.Event.{Event}
 use Rattle.pasts.specs.declared.statement.Statement.{Statement}
 use Rattle.board.specs.Telling.{sons, parents, all_told}
 use Rattle.board.proofs.Told.{entered_all_told, length_all_told, parents_positive, holds_parents}
-
-module _ {G : Type 0} (s : ℕ) (rs : List (Rule G)) (i : ℕ) where
-  pub joined_place : (m : Meaning G) (grade : ℕ → G) (g : G) → joined m grade s g (drop i rs) ≡ joined m grade s g (drop (place (heads rs) s i) rs)
-  joined_place m grade g = at_place (λ r. r.head) s (joined m grade s g) (λ r rs n. cond-false (eqb r.head s) _ _ (ne_eqb r.head s n)) rs i
-
-  pub sons_place : sons (drop i rs) s ≡ sons (drop (place (heads rs) s i) rs) s
-  sons_place = at_place (λ r. r.head) s (λ l. sons l s) (λ r rs n. cond-false (eqb r.head s) _ _ (ne_eqb r.head s n)) rs i
 
 -- who is told matters, and not how often or in which order
 told_same : {G : Type 0} (m : Meaning G) (e : Event) (ps qs : List ℕ) (xs : List (Statement G)) → All (λ t. 1 ≤ t) ps → All (λ t. 1 ≤ t) qs → ((r : ℕ) → 1 ≤ r → holds ps r ≡ holds qs r) → all_told m e xs ps ≡ all_told m e xs qs
@@ -81,6 +72,28 @@ module _ {G : Type 0} (n : ℕ) where
       let e = getD_used rs o d h in
       let l : (use_by (o % 4) r).son ≤ n = good_son n (o % 4) r.head r.bodies (gap r.bodies) (eqb r.head 0) (place_good rs (o / 4) d b (omega arith)) in
       omega arith
+
+  -- a parent has a rule, and so it is on the board
+  pub parent_within : (rs : List (Rule G)) (p s : ℕ) → malformed n rs ≡ false → son rs p s ≡ true → p ≤ n
+  parent_within [] p s b e = absurd (both_ways false refl e)
+  parent_within (r ∷ rs) p s b e =
+      let parts = or_parts (malformed_place n r) (malformed n rs) b in
+      ⊎_elim
+      (λ (q : r.head ≡ p). let l : r.head ≤ n = good_head n r.head (body_above n r.bodies || gap r.bodies) (eqb r.head 0) refl parts.0 in omega arith)
+      (λ (q : r.head ≡ p → ⊥). parent_within rs p s parts.1 (sym (cond-false (eqb r.head p) _ _ (ne_eqb r.head p q)) ∙ e))
+      (cases_eq r.head p)
+
+-- what holds of each number in a list of positive ones
+pub all_held : (Q : ℕ → Type 0) (xs : List ℕ) → All (λ t. 1 ≤ t) xs → ((p : ℕ) → 1 ≤ p → holds xs p ≡ true → Q p) → All Q xs
+all_held Q [] a f = tt
+all_held Q (x ∷ xs) a f =
+    (f x a.0 (or_left (eqb x x) (holds xs x) (eq-eqb x x refl)), all_held Q xs a.1 (λ p pos h. f p pos (or_right (eqb x p) (holds xs p) h)))
+
+-- the users of a statement are its parents, each on the board
+pub users_on : {G : Type 0} (n s : ℕ) → 1 ≤ s → (rs : List (Rule G)) → Wide rs → malformed n rs ≡ false → All (λ p. On n p × (son rs p s ≡ true)) (users (uses rs) s)
+users_on n s pos rs wide sound =
+    all_held (λ p. On n p × (son rs p s ≡ true)) (users (uses rs) s) (users_positive s pos rs)
+    (λ p at h. let son_is = sym (holds_users s pos p at rs wide) ∙ h in ((at, parent_within n rs p s sound son_is), son_is))
 
 -- a table filled with one number
 pub filled_length : (n a : ℕ) (xs : List ℕ) → xs ≡ replicate n a → length xs ≡ n

@@ -11,3 +11,4 @@ pub mod Queued
 pub mod Fallen
 pub mod Exits
 pub mod Logged
+pub mod Places

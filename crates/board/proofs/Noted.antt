@@ -1,12 +1,14 @@
 -- The set of active statements: what keeps it so, and what its words say.
-use Rattle.std.proofs.Common.{◌≡◌, ℕ, ◌+◌, ◌*◌, ◌/◌, ◌%◌, ◌<◌, ◌≤◌, true, false, List, length, get_or, set, replicate, sym, refl, ap, ◌∙◌, subst, ⊎_elim, arith, length-set}
+use Rattle.std.proofs.Common.{◌≡◌, ℕ, ◌*◌, ◌/◌, ◌%◌, ◌<◌, ◌≤◌, true, false, List, length, sum, get_or, set, replicate, sym, refl, ap, ◌∙◌, subst, ⊎_elim, arith, length-set}
 use lib.Count.{count_trailing_zeros, trailing_of_zero}
 use lib.ListN.{length-replicate}
 use Rattle.std.proofs.lemmas.List.{get_or-set_same, get_or-set_other, get_or_past, get_or-replicate}
+use Rattle.std.proofs.lemmas.List.Sums.{sum_by-set}
 use Rattle.std.proofs.lemmas.Bool.{both_ways, cases_Bool, cases_eq, cases_lt}
 use Rattle.scales.specs.Meaning.{Meaning}
 use Rattle.index.specs.Words.{digit, Has, trimmed}
-use Rattle.index.proofs.Digits.{below_lowest, trim_others, digit_none}
+use Rattle.index.proofs.Digits.{trimming_is, trim_less}
+use Rattle.std.proofs.lemmas.Nat.Bits.{bit_at-zero}
 use Rattle.pasts.specs.Marks.{active, answered}
 use Rattle.pasts.specs.Tables.{unopened}
 use Rattle.pasts.specs.declared.statement.Event.TheVariants.{Taken}
@@ -14,6 +16,21 @@ use Rattle.pasts.specs.declared.statement.Mark.{Mark}
 use Rattle.pasts.specs.declared.statement.Mark.TheVariants.{Unopened, Quiet, Active}
 use Rattle.pasts.specs.declared.statement.Statement.{Statement}
 use Rattle.board.specs.Indexed.{Noted, Resting}
+
+-- a number in the set has a word, which is not 0
+pub word_of : (words : List ℕ) (i : ℕ) → Has words i → (i / 64 < length words) × (0 < get_or words (i / 64) 0)
+word_of words i has =
+    let some : get_or words (i / 64) 0 ≡ 0 → ⊥ = λ z. let none = ap (digit (i % 64)) z ∙ bit_at-zero (i % 64) in absurd (omega arith) in (
+      ⊎_elim (λ (l : i / 64 < length words). l) (λ (l : length words ≤ i / 64). absurd (some (get_or_past words (i / 64) 0 l))) (cases_lt (i / 64) (length words)),
+      ⊎_elim (λ z. absurd (some z)) (λ z. omega arith) (cases_eq (get_or words (i / 64) 0) 0),
+    )
+
+-- taking a number out makes the words less
+pub sum_falls : (words : List ℕ) (i : ℕ) → Has words i → sum (set words (i / 64) (trimmed (get_or words (i / 64) 0))) < sum words
+sum_falls words i has =
+    let at = word_of words i has in
+    let less = trim_less (get_or words (i / 64) 0) at.1 in
+    omega (arith, sum_by-set (λ x. x) words (i / 64) (trimmed (get_or words (i / 64) 0)) 0 at.0)
 
 module _ {G : Type 0} (m : Meaning G) where
   -- one statement changed, and the set only grew
@@ -42,39 +59,44 @@ module _ {G : Type 0} (m : Meaning G) where
     past_end : (i : ℕ) → length xs ≤ i → active (get_or xs i (unopened m)).mark ≡ false
     past_end i h = ap (λ y. active y.mark) (get_or_past xs i (unopened m) h)
 
-    -- below the lowest digit of the word q nothing is active
-    pub rests_below : (words : List ℕ) (q t : ℕ) → Noted m words xs → Resting m (64 * q) xs → t ≡ count_trailing_zeros 64 (get_or words q 0) → t ≤ 64 → Resting m (64 * q + t) xs
-    rests_below words q t noted rests e most i h =
+    -- below the lowest number from the word q on nothing is active
+    pub rests_to : (words : List ℕ) (q i : ℕ) → Noted m words xs → Resting m (64 * q) xs → ((j : ℕ) → 64 * q ≤ j → Has words j → i ≤ j) → Resting m i xs
+    rests_to words q i noted rests least j h =
         ⊎_elim
-        (λ (low : i < 64 * q). rests i low)
-        (λ (high : 64 * q ≤ i). ⊎_elim
-        (λ (on : i < length xs).
-        let word : i / 64 ≡ q = omega arith in
-        let z : digit (i % 64) (get_or words q 0) ≡ 0 = below_lowest 64 (i % 64) (get_or words q 0) (omega arith) in
-        unnoted words i noted on (ap (λ k. digit (i % 64) (get_or words k 0)) word ∙ z))
-        (λ (off : length xs ≤ i). past_end i off)
-        (cases_lt i (length xs)))
-        (cases_lt i (64 * q))
+        (λ (low : j < 64 * q). rests j low)
+        (λ (high : 64 * q ≤ j). ⊎_elim
+        (λ (on : j < length xs). ⊎_elim
+        (λ a. let more = least j high (noted j on a) in absurd (omega arith))
+        (λ a. a)
+        (cases_Bool (active (get_or xs j (unopened m)).mark)))
+        (λ (off : length xs ≤ j). past_end j off)
+        (cases_lt j (length xs)))
+        (cases_lt j (64 * q))
 
-    -- an empty word
-    pub rests_over : (words : List ℕ) (q : ℕ) → Noted m words xs → Resting m (64 * q) xs → get_or words q 0 ≡ 0 → Resting m (64 * (q + 1)) xs
-    rests_over words q noted rests e i h =
-        rests_below words q 64 noted rests (sym (ap (count_trailing_zeros 64) e ∙ trailing_of_zero 64)) (omega arith) i (omega arith)
-
-    -- the lowest of the word q leaves the set, since it is not active
-    pub noted_trim : (words : List ℕ) (q t : ℕ) → q < length words → Noted m words xs → t ≡ count_trailing_zeros 64 (get_or words q 0) → (64 * q + t < length xs → active (get_or xs (64 * q + t) (unopened m)).mark ≡ false) → Noted m (set words q (trimmed (get_or words q 0))) xs
-    noted_trim words q t within noted e idle i h a =
-        let has = noted i h a in
+    -- nothing is active where there is no number from the word q on
+    pub rests_all : (words : List ℕ) (q : ℕ) → Noted m words xs → Resting m (64 * q) xs → ((j : ℕ) → 64 * q ≤ j → Has words j → ⊥) → (j : ℕ) → j < length xs → active (get_or xs j (unopened m)).mark ≡ false
+    rests_all words q noted rests none j on =
         ⊎_elim
-        (λ (at : i / 64 ≡ q).
-        let word : get_or (set words q (trimmed (get_or words q 0))) (i / 64) 0 ≡ trimmed (get_or words q 0) = ap (λ k. get_or (set words q (trimmed (get_or words q 0))) k 0) at ∙ get_or-set_same words q (trimmed (get_or words q 0)) 0 within in
-        let was : digit (i % 64) (get_or words q 0) ≡ 1 = ap (λ k. digit (i % 64) (get_or words k 0)) (sym at) ∙ has in
-        let other : i % 64 ≡ count_trailing_zeros 64 (get_or words q 0) → ⊥ = λ c.
-        let same : i ≡ 64 * q + t = omega arith in
-        both_ways (active (get_or xs i (unopened m)).mark) (ap (λ k. active (get_or xs k (unopened m)).mark) same ∙ idle (omega arith)) a in
-        ap (digit (i % 64)) word ∙ trim_others 64 (i % 64) (get_or words q 0) (omega arith) was other)
-        (λ ne. ap (digit (i % 64)) (get_or-set_other words q (i / 64) (trimmed (get_or words q 0)) 0 ne) ∙ has)
-        (cases_eq (i / 64) q)
+        (λ (low : j < 64 * q). rests j low)
+        (λ (high : 64 * q ≤ j). ⊎_elim
+        (λ a. absurd (none j high (noted j on a)))
+        (λ a. a)
+        (cases_Bool (active (get_or xs j (unopened m)).mark)))
+        (cases_lt j (64 * q))
+
+    -- the lowest number from the word q on leaves the set, since it is not active
+    pub noted_less : (words : List ℕ) (q i : ℕ) → Noted m words xs → 64 * q ≤ i → Has words i → ((j : ℕ) → 64 * q ≤ j → Has words j → i ≤ j) → (i < length xs → active (get_or xs i (unopened m)).mark ≡ false) → Noted m (set words (i / 64) (trimmed (get_or words (i / 64) 0))) xs
+    noted_less words q i noted from has least idle j h a =
+        let was = noted j h a in
+        let word = get_or words (i / 64) 0 in
+        ⊎_elim
+        (λ (at : j / 64 ≡ i / 64).
+        let apart : j ≡ i → ⊥ = λ e. both_ways (active (get_or xs j (unopened m)).mark) (ap (λ k. active (get_or xs k (unopened m)).mark) e ∙ idle (omega arith)) a in
+        let above = least j (omega arith) was in
+        let here : digit (j % 64) word ≡ 1 = ap (λ k. digit (j % 64) (get_or words k 0)) (sym at) ∙ was in
+        ap (λ k. digit (j % 64) (get_or (set words (i / 64) (trimmed word)) k 0)) at ∙ ap (digit (j % 64)) (get_or-set_same words (i / 64) (trimmed word) 0 (word_of words i has).0) ∙ trimming_is.kept word (i % 64) (j % 64) (omega arith) has here)
+        (λ ne. ap (digit (j % 64)) (get_or-set_other words (i / 64) (j / 64) (trimmed word) 0 ne) ∙ was)
+        (cases_eq (j / 64) (i / 64))
 
 -- what was taken is not active
 pub taken_rests : (k : Mark) → active (answered k Taken) ≡ false
@@ -86,5 +108,5 @@ taken_rests Active = refl
 pub none_in : (words : List ℕ) → words ≡ replicate 16 0 → (i : ℕ) → Has words i → ⊥
 none_in words e i has =
     let zero : get_or words (i / 64) 0 ≡ 0 = ap (λ l. get_or l (i / 64) 0) e ∙ ⊎_elim (λ h. get_or-replicate 16 (i / 64) 0 0 h) (λ h. get_or_past (replicate 16 0) (i / 64) 0 (rw length-replicate h)) (cases_lt (i / 64) 16) in
-    let none = ap (digit (i % 64)) zero ∙ digit_none (i % 64) in
+    let none = ap (digit (i % 64)) zero ∙ bit_at-zero (i % 64) in
     omega arith

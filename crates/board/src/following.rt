@@ -1,20 +1,17 @@
 // What a scan over all rules does, by the chains of one statement.
-ghost use Rattle.std.specs.Prelude.{◌≡◌, ℕ, ◌-◌, ◌*◌, ◌<◌, ◌≤◌, length, ◌≢◌};
+ghost use Rattle.std.specs.Prelude.{◌≡◌, ℕ, ◌-◌, ◌≤◌, ◌≢◌};
 ghost use Rattle.model.specs.Rules.{present};
 ghost use Rattle.model.specs.Least.{worth as worth_of};
-ghost use Rattle.index.specs.Chains.{Chained};
-ghost use Rattle.index.specs.Uses.{heads, uses, used, Wide};
 ghost use Rattle.index.specs.Words.{Has};
 ghost use Rattle.pasts.specs.Tables.{grades};
 ghost use Rattle.pasts.specs.declared.statement.Event.TheVariants.{Opened, SonRose};
 ghost use Rattle.board.specs.Telling.{sons, parents, all_told};
-ghost use Rattle.board.specs.Indexed.{Noted, SonsOpen};
+ghost use Rattle.board.specs.Indexed.{SonsOpen};
 
-use crate::chaining::Chain;
-use crate::noting::tell_noted;
+use crate::chaining::{Heads, Uses};
+use crate::noting::Agenda;
 use crate::valuing::value;
-use index::{has, insert};
-use model::Rule;
+use index::NumberSet;
 use pasts::{Event, Statement};
 use scales::Scale;
 use surveys::Survey;
@@ -23,111 +20,69 @@ use surveys::Survey;
 pub(crate) fn chain_worth<V: Survey>(
     survey: &V,
     statements: &[Statement<V::Grade>],
-    rules: &[Rule<V::Grade>],
-    chain: Chain<'_>,
+    own: &Heads<'_, V::Grade>,
     s: u16,
 ) -> V::Grade
-    requires on { s < length chain.first.now }
-    requires room { length rules.now ≤ length chain.next.now }
-    requires chains { Chained 0 (heads rules.now) chain.first.now chain.next.now }
-    ensures { result ≡ worth_of V.Grade.Scale.meaning (V.degrees survey.now) rules.now (grades V.Grade.Scale.meaning statements.now) s }
+    requires { s ≤ 1024 }
+    ensures { result ≡ worth_of V.Grade.Scale.meaning (V.degrees survey.now) own.now.rules.now (grades V.Grade.Scale.meaning statements.now) s }
 {
     let mut total = survey.degree(s);
-    let mut k = chain.first[s as usize] as usize;
-    while k < rules.len() {
-        total = total.join(value(statements, &rules[k]));
-        k = chain.next[k] as usize;
+    for rule in own.of(s) {
+        total = total.join(value(statements, rule));
     }
     total
 }
 
-// The bodies that are there are opened.
-fn open_noted<G: Scale>(statements: &mut [Statement<G>], words: &mut [u64], bodies: [u16; 4])
-    requires room { length statements.old ≤ 64 * length words.old }
-    requires noted { Noted G.meaning words.old statements.old }
-    ensures hears { statements.new ≡ all_told G.meaning Opened statements.old (present bodies) }
-    ensures noted { Noted G.meaning words.new statements.new }
-{
-    for b in bodies {
-        if b != 0 {
-            tell_noted(statements, words, b, Event::Opened);
+impl<G: Scale> Agenda<'_, G> {
+    // The bodies that are there are opened.
+    fn open_bodies(&mut self, bodies: [u16; 4])
+        ensures same_reference { self.new.statements.ghost_name ≡ self.old.statements.ghost_name }
+        ensures hears { self.new.statements.now ≡ all_told G.meaning Opened self.old.statements.now (present bodies) }
+    {
+        for b in bodies {
+            if b != 0 {
+                self.tell(b, Event::Opened);
+            }
         }
     }
-}
 
-// The sons of `s` are opened, by the chain of its rules.
-fn open_chain<G: Scale>(
-    statements: &mut [Statement<G>],
-    words: &mut [u64],
-    rules: &[Rule<G>],
-    chain: Chain<'_>,
-    s: u16,
-)
-    requires on { s < length chain.first.now }
-    requires room { length rules.now ≤ length chain.next.now }
-    requires chains { Chained 0 (heads rules.now) chain.first.now chain.next.now }
-    requires long { length statements.old ≤ 64 * length words.old }
-    requires noted { Noted G.meaning words.old statements.old }
-    ensures hears { statements.new ≡ all_told G.meaning Opened statements.old (sons rules.now s) }
-    ensures noted { Noted G.meaning words.new statements.new }
-{
-    let mut k = chain.first[s as usize] as usize;
-    while k < rules.len() {
-        open_noted(statements, words, rules[k].bodies);
-        k = chain.next[k] as usize;
+    // The sons of `s` are opened, by the chain of its rules.
+    fn open_sons(&mut self, own: &Heads<'_, G>, s: u16)
+        requires { s ≤ 1024 }
+        ensures same_reference { self.new.statements.ghost_name ≡ self.old.statements.ghost_name }
+        ensures hears { self.new.statements.now ≡ all_told G.meaning Opened self.old.statements.now (sons own.now.rules.now s) }
+    {
+        for rule in own.of(s) {
+            self.open_bodies(rule.bodies);
+        }
     }
-}
 
-// The sons of `s` are opened, unless that was done before.
-pub(crate) fn open_once<G: Scale>(
-    statements: &mut [Statement<G>],
-    words: &mut [u64],
-    opened: &mut [u64],
-    rules: &[Rule<G>],
-    chain: Chain<'_>,
-    s: u16,
-)
-    requires named { 1 ≤ s }
-    requires on { s < length chain.first.now }
-    requires room { length rules.now ≤ length chain.next.now }
-    requires chains { Chained 0 (heads rules.now) chain.first.now chain.next.now }
-    requires long { length statements.old ≤ 64 * length words.old }
-    requires noted { Noted G.meaning words.old statements.old }
-    requires before { Has opened.old (s - 1) → SonsOpen G.meaning rules.now statements.old s }
-    ensures hears { statements.new ≡ all_told G.meaning Opened statements.old (sons rules.now s) }
-    ensures noted { Noted G.meaning words.new statements.new }
-    ensures opened { (i : ℕ) → (i ≢ s - 1) → Has opened.new i → Has opened.old i }
-{
-    let i = s as usize - 1;
-    if has(opened, i) {
-        return;
+    // The sons of `s` are opened, unless that was done before.
+    pub(crate) fn open_once(&mut self, opened: &mut NumberSet, own: &Heads<'_, G>, s: u16)
+        requires named { 1 ≤ s }
+        requires on { s ≤ 1024 }
+        requires before { Has opened.old (s - 1) → SonsOpen G.meaning own.now.rules.now self.old.statements.now s }
+        ensures same_reference { self.new.statements.ghost_name ≡ self.old.statements.ghost_name }
+        ensures hears { self.new.statements.now ≡ all_told G.meaning Opened self.old.statements.now (sons own.now.rules.now s) }
+        ensures opened { (i : ℕ) → (i ≢ s - 1) → Has opened.new i → Has opened.old i }
+    {
+        let i = s as usize - 1;
+        if opened.has(i) {
+            return;
+        }
+        self.open_sons(own, s);
+        opened.insert(i);
     }
-    open_chain(statements, words, rules, chain, s);
-    insert(opened, i);
-}
 
-// The parents of `s` are told that a son rose, by the chain of its uses.
-pub(crate) fn tell_chain<G: Scale>(
-    statements: &mut [Statement<G>],
-    words: &mut [u64],
-    rules: &[Rule<G>],
-    chain: Chain<'_>,
-    s: u16,
-)
-    requires named { 1 ≤ s }
-    requires on { s < length chain.first.now }
-    requires few { length rules.now ≤ 4096 }
-    requires room { 4 * length rules.now ≤ length chain.next.now }
-    requires chains { Chained 0 (used (uses rules.now)) chain.first.now chain.next.now }
-    requires wide { Wide rules.now }
-    requires long { length statements.old ≤ 64 * length words.old }
-    requires noted { Noted G.meaning words.old statements.old }
-    ensures hears { statements.new ≡ all_told G.meaning SonRose statements.old (parents rules.now s) }
-    ensures noted { Noted G.meaning words.new statements.new }
-{
-    let mut k = chain.first[s as usize] as usize;
-    while k < 4 * rules.len() {
-        tell_noted(statements, words, rules[k / 4].head, Event::SonRose);
-        k = chain.next[k] as usize;
+    // The parents of `s` are told that a son rose, by the chain of its uses.
+    pub(crate) fn tell_parents(&mut self, uses: &Uses<'_, G>, s: u16)
+        requires named { 1 ≤ s }
+        requires on { s ≤ 1024 }
+        ensures same_reference { self.new.statements.ghost_name ≡ self.old.statements.ghost_name }
+        ensures hears { self.new.statements.now ≡ all_told G.meaning SonRose self.old.statements.now (parents uses.now.rules.now s) }
+    {
+        for rule in uses.of(s) {
+            self.tell(rule.head, Event::SonRose);
+        }
     }
 }

@@ -1,85 +1,91 @@
-// Which statements are active, noted in a set beside the table, so that the lowest-numbered one is found in a few words. A statement that is
-// active no more may stay in the set until it is met there.
-ghost use Rattle.std.specs.Prelude.{◌≡◌, ◌+◌, ◌-◌, ◌*◌, ◌<◌, ◌≤◌, length, set, MatchOption, slice_set};
+// A table of statements with the active ones noted in a set beside it, so that the lowest-numbered one is found in a few words. A statement
+// that is active no more may stay in the set until it is met there.
+ghost use Rattle.std.specs.Prelude.{◌≡◌, ◌-◌, ◌≤◌, length, set, slice_set};
+ghost use Rattle.pasts.specs.Marks.{answered};
 ghost use Rattle.pasts.specs.Tables.{entered, told};
-ghost use Rattle.pasts.specs.Calls.{Next};
+ghost use Rattle.pasts.specs.declared.statement.Event.TheVariants.{Taken};
 ghost use Rattle.board.specs.Advances.{Picks};
-ghost use Rattle.board.specs.Indexed.{Noted, Resting};
+ghost use Rattle.board.specs.Indexed.{Noted};
 
 use crate::blanks::statement_at;
 use crate::numbered::put;
-use index::{insert, lowest, trim};
+use crate::stepping::take;
+use index::NumberSet;
 use pasts::{Event, Statement};
 use scales::Scale;
 
-// Notes every active statement.
-pub(crate) fn note_active<G: Scale>(statements: &[Statement<G>], words: &mut [u64])
-    requires { length statements.now ≤ 64 * length words.old }
-    ensures { Noted G.meaning words.new statements.now }
+#[derive(Drop)]
+pub(crate) struct Agenda<'a, G: Scale> {
+    pub(crate) statements: &'a mut [Statement<G>],
+    pub(crate) active: NumberSet,
+    ghost few: { length statements.now ≤ 1024 },
+    ghost noted: { Noted G.meaning active statements.now },
+}
+
+impl<'a, G: Scale> Agenda<'a, G> {
+    // Notes every active statement.
+    pub(crate) fn new(statements: &'a mut [Statement<G>]) -> Agenda<'a, G>
+        requires { length statements.old ≤ 1024 }
+        ensures same_reference { result.statements.ghost_name ≡ statements.entry.ghost_name }
+        ensures same { result.statements.now ≡ statements.old }
+    {
+        let active = active_in(statements);
+        Agenda { statements, active }
+    }
+
+    // The statement `s`, if there is one, answers the event, and is noted if that changed its mark.
+    pub(crate) fn tell(&mut self, s: u16, event: Event)
+        requires { 1 ≤ s }
+        ensures same_reference { self.new.statements.ghost_name ≡ self.old.statements.ghost_name }
+        ensures hears { self.new.statements.now ≡ slice_set self.old.statements.now (s - 1) (told event (entered G.meaning self.old.statements.now s)) }
+    {
+        let statements = &mut *self.statements;
+        let before = statement_at(statements, s);
+        let after = before.told(event);
+        if after.mark == before.mark {
+            return;
+        }
+        self.active.insert(s as usize - 1);
+        put(self.statements, s, after);
+    }
+
+    // The statement `s`, if there is one, is taken, with this grade.
+    pub(crate) fn take(&mut self, s: u16, grade: G)
+        requires { 1 ≤ s }
+        ensures same_reference { self.new.statements.ghost_name ≡ self.old.statements.ghost_name }
+        ensures taken { self.new.statements.now ≡ set self.old.statements.now (s - 1) (record { grade = grade; mark = answered (entered G.meaning self.old.statements.now s).mark Taken }) }
+    {
+        take(self.statements, s, grade);
+    }
+
+    // The active statement with the lowest number. What is met before it is active no more, and leaves the set.
+    pub(crate) fn first(&mut self) -> Option<u16>
+        ensures same_reference { self.new.statements.ghost_name ≡ self.old.statements.ghost_name }
+        ensures same { self.new.statements.now ≡ self.old.statements.now }
+        ensures picks { Picks G.meaning self.old.statements.now result }
+    {
+        let mut q = 0;
+        while let Some(i) = self.active.lowest_from(q) {
+            if i < self.statements.len() && self.statements[i].mark.is_active() {
+                return Some(i as u16 + 1);
+            }
+            q = i / 64;
+            self.active.remove_lowest(q);
+        }
+        None
+    }
+}
+
+// The places of the active statements.
+fn active_in<G: Scale>(statements: &[Statement<G>]) -> NumberSet
+    requires { length statements.now ≤ 1024 }
+    ensures { Noted G.meaning result statements.now }
 {
+    let mut active = NumberSet::new();
     for (i, x) in statements.iter().enumerate() {
         if x.mark.is_active() {
-            insert(words, i);
+            active.insert(i);
         }
     }
-}
-
-// The statement `s`, if there is one, answers the event, and is noted if it is active then.
-pub(crate) fn tell_noted<G: Scale>(
-    statements: &mut [Statement<G>],
-    words: &mut [u64],
-    s: u16,
-    event: Event,
-)
-    requires on { 1 ≤ s }
-    requires room { length statements.old ≤ 64 * length words.old }
-    requires noted { Noted G.meaning words.old statements.old }
-    ensures hears { statements.new ≡ slice_set statements.old (s - 1) (told event (entered G.meaning statements.old s)) }
-    ensures noted { Noted G.meaning words.new statements.new }
-{
-    let before = statement_at(statements, s);
-    let after = before.told(event);
-    if after.mark == before.mark {
-        return;
-    }
-    put(statements, s, after);
-    if after.mark.is_active() {
-        insert(words, s as usize - 1);
-    }
-}
-
-// The first active statement of those in the word `q`. What is met before it is active no more, and leaves the set.
-fn lowest_in<G: Scale>(statements: &[Statement<G>], words: &mut [u64], q: usize) -> Option<u16>
-    requires few { length statements.now ≤ 1024 }
-    requires short { length words.old ≡ 16 }
-    requires within { q < 16 }
-    requires rests { Resting G.meaning (64 * q) statements.now }
-    requires noted { Noted G.meaning words.old statements.now }
-    ensures found { MatchOption result (Resting G.meaning (64 * (q + 1)) statements.now) (λ s. Next G.meaning statements.now s) }
-    ensures noted { Noted G.meaning words.new statements.now }
-{
-    while words[q] != 0 {
-        let i = 64 * q + lowest(words[q]) as usize;
-        if i < statements.len() && statements[i].mark.is_active() {
-            return Some(i as u16 + 1);
-        }
-        words[q] = trim(words[q]);
-    }
-    None
-}
-
-// The active statement with the lowest number.
-pub(crate) fn first_noted<G: Scale>(statements: &[Statement<G>], words: &mut [u64]) -> Option<u16>
-    requires few { length statements.now ≤ 1024 }
-    requires short { length words.old ≡ 16 }
-    requires noted { Noted G.meaning words.old statements.now }
-    ensures picks { Picks G.meaning statements.now result }
-    ensures noted { Noted G.meaning words.new statements.now }
-{
-    for q in 0..16 {
-        if let Some(s) = lowest_in(statements, words, q) {
-            return Some(s);
-        }
-    }
-    None
+    active
 }

@@ -5,4 +5,4 @@
 pub mod theorems;
 mod words;
 
-pub use words::{has, insert, lowest, trim};
+pub use words::NumberSet;

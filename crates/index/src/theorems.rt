@@ -6,29 +6,21 @@ ghost use Rattle.index.specs.Words.{TrimmingIs, PuttingIs};
 use scales::Scale;
 
 // A chain leads through exactly the places with its key, in rising order.
-pub fn chains_list_their_places() -> u8
+pub fn chains_list_their_places()
     ensures { ChainsList }
-{
-    0
-}
+{}
 
 // The users of a statement are exactly those that have it for a son.
-pub fn users_are_parents<G: Scale>() -> u8
+pub fn users_are_parents<G: Scale>()
     ensures { UsersAre G }
-{
-    0
-}
+{}
 
 // Trimming takes the lowest digit that is 1, and no other.
-pub fn trimming_takes_the_lowest() -> u8
+pub fn trimming_takes_the_lowest()
     ensures { TrimmingIs }
-{
-    0
-}
+{}
 
 // Putting a number into a set puts in no other, and takes none out.
-pub fn putting_adds_one() -> u8
+pub fn putting_adds_one()
     ensures { PuttingIs }
-{
-    0
-}
+{}

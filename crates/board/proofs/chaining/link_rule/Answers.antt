@@ -1,13 +1,23 @@
-use Rattle.std.proofs.Common.{◌≡◌, ℕ, ◌+◌, ◌<◌, eqb, get_or, ap, ◌∙◌, arith}
-use Rattle.std.proofs.lemmas.Bool.{eq-eqb, cond-true}
+use Rattle.std.proofs.Common.{◌≡◌, ℕ, ◌+◌, get_or, set, sym, ap, ◌∙◌, subst, arith}
+use Rattle.index.specs.Chains.{Chained}
 use Rattle.board.proofs.chaining.link_rule.Goals as goal
 
-pub returns-then-head-eq0 : goal.returns-then-head-eq0
-returns-then-head-eq0 c = record {
-  links = λ keys l are chained.
-      let i = c.args.i in
-      let none : (j : ℕ) → j < 4 → get_or keys (i + j) 0 ≡ 0 = λ j h. are j h ∙ cond-true (eqb c.args.head 0) 0 (get_or c.args.bodies.now j 0) (eq-eqb c.args.head 0 c.if-head-eq0.true) in
-      let at : i ≡ i + 0 = omega arith in
-      c.link_four.ensures keys l (ap (λ k. get_or keys k 0) at ∙ none 0 (omega arith)) (none 1 (omega arith)) (none 2 (omega arith)) (none 3 (omega arith)) chained;
-  wide = c.told-bodies;
-}
+pub returns-clause-links : goal.returns-clause-links
+returns-clause-links g c keys l are chained =
+    let i = c.args.i in
+    let used = c.used_by.ensures.sons in
+    let third = c.link_use-absent in
+    let second = c.link_use-absent-2 in
+    let one = c.link_use-absent-3 in
+    let At : ℕ → Type 0 = λ k. get_or keys k 0 ≡ get_or c.used_by.result 0 0 in
+    let Last : ℕ → Type 0 = λ k. Chained k keys (set c.args.first.now 0 c.args.absent) c.args.next.now in
+    let Third : ℕ → Type 0 = λ k. Chained k keys (set third.new.first 0 third.result) third.new.next in
+    let Second : ℕ → Type 0 = λ k. Chained k keys (set second.new.first 0 second.result) second.new.next in
+    let n : i + 0 ≡ i = omega arith in
+    let a : i + 4 ≡ i + 3 + 1 = omega arith in
+    let b : i + 3 ≡ i + 2 + 1 = omega arith in
+    let d : i + 2 ≡ i + 1 + 1 = omega arith in
+    let x = third.ensures keys (omega arith) (are 3 (omega arith) ∙ sym (used 3 (omega arith))) (subst Last a chained) in
+    let y = second.ensures keys (omega arith) (are 2 (omega arith) ∙ sym (used 2 (omega arith))) (subst Third b x) in
+    let z = one.ensures keys (omega arith) (are 1 (omega arith) ∙ sym (used 1 (omega arith))) (subst Second d y) in
+    c.link_use.ensures keys (omega arith) (subst At n (are 0 (omega arith) ∙ sym (used 0 (omega arith)))) z
