@@ -2,7 +2,9 @@
 // numbers as binary digits.
 #![tactic(auto)]
 
+mod sets;
 pub mod theorems;
 mod words;
 
-pub use words::NumberSet;
+pub use sets::NumberSet;
+pub use words::{has, insert, lowest, trim};

@@ -2,7 +2,7 @@ use Rattle.std.proofs.Common.{◌≡◌, ℕ, ◌<◌, ◌≤◌, MatchOption, L
 use borrow.Author.Tests.{tests}
 use Rattle.std.proofs.lemmas.Iterator.{first_from_Range}
 use Rattle.index.proofs.Digits.{lowest_is, none_from}
-use Rattle.index.proofs.words.NumberSet.lowest_from.Goals as goal
+use Rattle.index.proofs.sets.NumberSet.lowest_from.Goals as goal
 
 -- the first word from q on that is not 0
 abbrev Found : List ℕ → ℕ → Option ℕ → Type 0
