@@ -125,7 +125,7 @@ fn link(first: &mut [u16], next: &mut [u16], i: usize, key: u16)
     first[k] = i as u16;
 }
 
-// The rules by their heads. `first` comes with no place in it.
+// The rules by their heads. `first` comes with no place in it. The loop counts, since it writes the places' numbers.
 fn chain_heads<G: Scale>(rules: &[Rule<G>], first: &mut [u16], next: &mut [u16])
     requires few { length rules.now ≤ 4096 }
     requires room { length rules.now ≤ length next.old }
