@@ -11,8 +11,8 @@ use scales::Scale;
 // A board of no more statements and places than this is done by scans: chains would cost more than they save.
 pub(crate) const FEW: usize = 16;
 
-// The places of the rules by their keys, EACH to a rule: the first place with each key, and for each place the next with the same key. Where
-// a rule has one place, its key is the head; where it has four, the keys are the statements used.
+// The places of the rules by their keys, EACH to a rule: the first place with each key, and for each place the next with the same key.
+// Where a rule has one place, its key is the head; where it has four, the keys are the statements used.
 #[derive(Drop)]
 pub(crate) struct Chain<'a, G, const EACH: usize> {
     pub(crate) rules: &'a [Rule<G>],
