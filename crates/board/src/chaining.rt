@@ -11,8 +11,8 @@ use scales::Scale;
 // A board of no more statements and places than this is done by scans: chains would cost more than they save.
 pub(crate) const FEW: usize = 16;
 
-// The places of the rules by their keys, EACH to a rule: the first place with each key, and for each place the next with the same key. Where
-// a rule has one place, its key is the head; where it has four, the keys are the statements used.
+// The places of the rules by their keys, EACH to a rule: the first place with each key, and for each place the next with the same key.
+// Where a rule has one place, its key is the head; where it has four, the keys are the statements used.
 #[derive(Drop)]
 pub(crate) struct Chain<'a, G, const EACH: usize> {
     pub(crate) rules: &'a [Rule<G>],
@@ -125,7 +125,7 @@ fn link(first: &mut [u16], next: &mut [u16], i: usize, key: u16)
     first[k] = i as u16;
 }
 
-// The rules by their heads. `first` comes with no place in it.
+// The rules by their heads. `first` comes with no place in it. The loop counts, since it writes the places' numbers.
 fn chain_heads<G: Scale>(rules: &[Rule<G>], first: &mut [u16], next: &mut [u16])
     requires few { length rules.now ≤ 4096 }
     requires room { length rules.now ≤ length next.old }

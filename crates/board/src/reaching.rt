@@ -10,7 +10,8 @@ use crate::numbered::put;
 use model::Rule;
 use scales::Scale;
 
-// Flags the parents of `s`. Those that had no flag come to the queue's end; answers how many are in the queue then.
+// Flags the parents of `s`. Those that had no flag come to the queue's end; answers how many are in the queue then. The queue is an array
+// and two numbers, used in two functions: a type for it would be longer than both.
 fn flag_parents<G: Scale>(
     uses: &Uses<'_, G>,
     s: u16,

@@ -18,7 +18,8 @@ use pasts::Statement;
 use scales::Scale;
 use surveys::Survey;
 
-// An advance of `s` by the chains of its rules and of its uses.
+// An advance of `s` by the chains of its rules and of its uses. The two chains come apart: that they are of the same rules is an equation
+// over an open type of grades, which no ghost field of a pair can hold.
 fn advance_noted<V: Survey>(
     survey: &V,
     own: &Heads<'_, V::Grade>,
