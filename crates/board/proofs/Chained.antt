@@ -1,5 +1,5 @@
 -- What a scan over the rules gives, by the chains of a statement; and that a well_formed board's numbers are keys.
-use Rattle.std.proofs.Common.{◌≡◌, ℕ, zero, suc, ◌-◌, ◌*◌, ◌/◌, ◌%◌, ◌<◌, ◌≤◌, Bool, true, false, cond, not, ◌&&◌, ◌||◌, eqb, ltb, List, [], ◌∷◌, length, get_or, drop, replicate, sym, refl, ap, ◌∙◌, ⊎_elim, arith}
+use Rattle.std.proofs.Common.{◌≡◌, ℕ, zero, suc, ◌-◌, ◌*◌, ◌/◌, ◌%◌, ◌<◌, ◌≤◌, Bool, true, false, cond, not, ◌&&◌, ◌||◌, eqb, ltb, List, [], ◌∷◌, length, get_or, replicate, sym, refl, ap, ◌∙◌, ⊎_elim, arith}
 use Rattle.std.specs.List.{AllByRecursion as All}
 use Rattle.std.proofs.lemmas.List.{ext_get_or, get_or-map, length-replicate, get_or-replicate}
 use Rattle.std.proofs.lemmas.Bool.{both_ways, cases_eq, or_parts, or_left, or_right, ltb-false, eq-eqb, ne_eqb, cond-false}
@@ -13,7 +13,7 @@ use Rattle.index.proofs.Uses.{getD_used, users_positive, holds_users}
 use Rattle.pasts.specs.Tables.{unopened, entered, told}
 use Rattle.pasts.specs.declared.statement.Event.{Event}
 use Rattle.pasts.specs.declared.statement.Statement.{Statement}
-use Rattle.board.specs.Telling.{sons, parents, all_told}
+use Rattle.board.specs.Telling.{parents, all_told}
 use Rattle.board.proofs.Told.{entered_all_told, length_all_told, parents_positive, holds_parents}
 
 -- who is told matters, and not how often or in which order

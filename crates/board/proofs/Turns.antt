@@ -1,9 +1,9 @@
 -- One turn of a loop over a rule's bodies or over rules: what a recursion has before it, and after it.
-use Rattle.std.proofs.Common.{◌≡◌, ℕ, ◌+◌, ◌-◌, ◌<◌, ◌≤◌, Bool, true, false, cond, not, ◌&&◌, eqb, List, [], ◌∷◌, ◌++◌, length, get_or, drop, set, Some, None, Option, sym, refl, ap, ◌∙◌, arith}
+use Rattle.std.proofs.Common.{◌≡◌, ℕ, ◌+◌, ◌-◌, ◌<◌, ◌≤◌, Bool, true, false, cond, not, ◌&&◌, eqb, List, [], ◌∷◌, ◌++◌, length, get_or, drop, set, sym, refl, ap, ◌∙◌}
 use Rattle.std.proofs.lemmas.List.{drop_more, drop_all}
 use Rattle.std.proofs.lemmas.Bool.{eq-eqb, ne_eqb, cond-true, cond-false}
 use Rattle.scales.specs.Meaning.{Meaning}
-use Rattle.model.specs.Rules.{present, holds, folds, joined, value}
+use Rattle.model.specs.Rules.{present, holds, joined, value}
 use Rattle.model.specs.declared.rule.Rule.{Rule}
 use Rattle.pasts.specs.Tables.{entered, told}
 use Rattle.pasts.specs.declared.statement.Event.{Event}

@@ -1,4 +1,4 @@
-use Rattle.std.proofs.Common.{◌≡◌, ℕ, ◌+◌, get_or, set, sym, ap, ◌∙◌, subst, arith}
+use Rattle.std.proofs.Common.{◌≡◌, ℕ, ◌+◌, get_or, set, sym, ◌∙◌, subst, arith}
 use Rattle.index.specs.Chains.{Chained}
 use Rattle.board.proofs.chaining.link_rule.Goals as goal
 

@@ -1,7 +1,7 @@
 use Rattle.std.proofs.Common.{◌≡◌, ℕ, ◌<◌, length, get_or, sym, ap, ◌∙◌, subst, ⊎_elim, arith}
 use Rattle.std.proofs.lemmas.List.{get_or_read}
 use Rattle.std.proofs.lemmas.Bool.{both_ways, cases_eq}
-use Rattle.index.specs.Words.{Has, with}
+use Rattle.index.specs.Words.{Has}
 use Rattle.index.proofs.Digits.{put_kept}
 use Rattle.pasts.specs.Marks.{active}
 use Rattle.pasts.specs.Tables.{unopened}

@@ -1,4 +1,4 @@
-use Rattle.std.proofs.Common.{◌≡◌, ℕ, ◌+◌, ◌-◌, ◌≤◌, Bool, true, false, eqb, ◌⊎◌, List, [], ◌∷◌, length, drop, set, sym, refl, ap, ◌∙◌, subst, subst₂, inl, inr, ⊎_elim, arith}
+use Rattle.std.proofs.Common.{◌≡◌, ℕ, ◌-◌, ◌≤◌, Bool, true, false, eqb, ◌⊎◌, List, ◌∷◌, length, drop, sym, refl, ap, ◌∙◌, subst, inl, inr, ⊎_elim, arith}
 use Rattle.std.specs.List.{AllByRecursion as All}
 use Rattle.std.proofs.lemmas.List.{get_or-set_same}
 use Rattle.std.proofs.lemmas.Bool.{both_ways, or_cases, eqb-true}
@@ -6,7 +6,7 @@ use Rattle.model.specs.Rules.{holds, son}
 use Rattle.model.specs.Least.{On}
 use Rattle.index.specs.Uses.{heads, uses, users}
 use Rattle.index.proofs.Uses.{holds_users}
-use Rattle.board.specs.Flags.{flagged, Grown}
+use Rattle.board.specs.Flags.{flagged}
 use Rattle.board.specs.Indexed.{keyed, chosen}
 use Rattle.board.proofs.Chained.{users_on}
 use Rattle.board.proofs.Places.{users_chosen}

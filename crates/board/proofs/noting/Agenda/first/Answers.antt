@@ -1,9 +1,7 @@
-use Rattle.std.proofs.Common.{◌≡◌, ℕ, ◌+◌, ◌*◌, ◌<◌, false, List, length, get_or, sym, ap, ◌∙◌, subst, arith}
+use Rattle.std.proofs.Common.{◌≡◌, ◌<◌, false, length, get_or, sym, ap, ◌∙◌, arith}
 use Rattle.std.proofs.lemmas.List.{get_or_default}
 use Rattle.pasts.specs.Marks.{active}
 use Rattle.pasts.specs.Tables.{unopened}
-use Rattle.pasts.specs.Calls.{Next}
-use Rattle.board.specs.Indexed.{Noted}
 use Rattle.board.proofs.Told.{none_active, next_here}
 use Rattle.board.proofs.Noted.{rests_to, rests_all, noted_less, sum_falls}
 use Rattle.board.proofs.noting.Agenda.first.Goals as goal
