@@ -1,10 +1,8 @@
-use Rattle.std.proofs.Common.{◌≡◌, ◌+◌, ◌-◌, ◌<◌, ◌≤◌, length, refl, sym, ap, ◌∙◌, arith}
-use Rattle.std.proofs.lemmas.Bool.Decides.{nat_tests}
+use Rattle.std.proofs.Common.{◌+◌, ◌-◌, sym, ap, ◌∙◌}
 use Rattle.std.proofs.lemmas.Result.{err_from_is_err_and}
 use Rattle.text.specs.Boards.{placed}
-use Rattle.text.specs.Faults.{judged}
 use Rattle.text.specs.Rows.{rules_in}
-use Rattle.text.proofs.Turns.{at_end, in_line, goes_on, on_place, placed_on, bytes_follow, none_follow}
+use Rattle.text.proofs.Turns.{in_line, goes_on, on_place, placed_on}
 use Rattle.text.proofs.loading.read_rules.Goals as goal
 
 pub returns-in_err-read-clause-answer : goal.returns-in_err-read-clause-answer

@@ -1,18 +1,15 @@
-use Rattle.std.proofs.Common.{◌≡◌, ℕ, ◌+◌, ◌*◌, ◌≤◌, not, eqb, ltb, [], ◌∷◌, ◌++◌, length, drop, Some, None, Ok, sym, ap, ◌∙◌, arith, rules}
+use Rattle.std.proofs.Common.{◌≡◌, ℕ, ◌+◌, ◌*◌, ltb, [], ◌∷◌, ◌++◌, length, drop, Some, None, Ok, sym, ap, ◌∙◌, arith}
 use Rattle.std.specs.List.{flat_map}
 use Rattle.std.proofs.lemmas.Bool.{cond-false, le-ltb}
-use Rattle.std.proofs.lemmas.List.Sums.{count_by-le-length}
 use Rattle.pasts.specs.Refusals.{check, first}
 use Rattle.pasts.specs.Tables.{tables, table_checks}
 use Rattle.pasts.specs.declared.refusal.Refusal.TheVariants.{BufferShort}
-use Rattle.pasts.proofs.Checked.{tables_checked}
 use Rattle.pasts.proofs.Outcomes.{first_passed}
 use Rattle.text.specs.Boards.{held}
 use Rattle.text.specs.Loads.{or_length}
 use Rattle.text.specs.Spelling.{header_front, row_bytes}
 use Rattle.text.proofs.Holding.{held_count}
 use Rattle.text.proofs.Poured.{pour}
-use Rattle.text.proofs.writing.write.Given.{Over}
 use Rattle.text.proofs.writing.write.Goals as goal
 use Rattle.text.proofs.writing.write.Goals.{After-count_rules-held}
 

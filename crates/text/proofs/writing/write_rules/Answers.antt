@@ -1,6 +1,6 @@
-use Rattle.std.proofs.Common.{◌≡◌, ◌+◌, ◌-◌, ◌*◌, ◌≤◌, [], ◌∷◌, ◌++◌, length, take, drop, sym, ap, ◌∙◌, arith}
+use Rattle.std.proofs.Common.{◌+◌, ◌≤◌, [], ◌∷◌, ◌++◌, length, take, drop, sym, ap, ◌∙◌, arith}
 use Rattle.std.specs.List.{flat_map}
-use Rattle.std.proofs.lemmas.List.{take_all, length-append, length-take, length-drop, flat_map_more}
+use Rattle.std.proofs.lemmas.List.{length-append, length-take, length-drop, flat_map_more}
 use Rattle.text.specs.Boards.{held, numbered}
 use Rattle.text.specs.Spelling.{row_bytes}
 use Rattle.text.proofs.Holding.{held_blank, held_there, held_room}

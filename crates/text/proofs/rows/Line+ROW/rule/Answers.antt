@@ -1,5 +1,5 @@
 use Rattle.std.proofs.lemmas.Result.{err_from_is_err_and}
-use Rattle.text.proofs.RuleLines.{in_due, in_mark, in_head, in_form, in_weight, in_bodies, read}
+use Rattle.text.proofs.RuleLines.{in_mark, in_head, in_form, in_weight, in_bodies, read}
 use Rattle.text.proofs.rows.Line+ROW.rule.Goals as goal
 
 pub returns-in_err-mark : goal.returns-in_err-mark
