@@ -16,7 +16,7 @@ pub(crate) fn statement_at<G: Scale>(statements: &[Statement<G>], s: u16) -> Sta
     at(statements, s, Statement::unopened())
 }
 
-// The head of the rule in the place `k`, or 0 if the place is blank.
+// The head of the rule in the place `k`, or 0 if the place is blank, as the record has it: callers compare it or hand it on.
 pub(crate) fn head_at<G: Scale>(rules: &[Rule<G>], k: u16) -> u16
     requires { 1 ≤ k }
     ensures { result ≡ (slice_index_or rules.now (k - 1) (blank G.meaning)).head }

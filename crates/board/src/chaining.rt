@@ -1,5 +1,6 @@
-// Two chains over a board's rules, in lent tables: its rules by their heads, and their uses by the statements used. They are built backwards,
-// so that they rise.
+// Two chains over a board's rules, in lent tables: its rules by their heads, and their uses by the statements used. They are built
+// backwards, so that they rise. Tables of numbers and no maps, since a board's calls take no memory; a number past the last place says
+// that there is none.
 ghost use Rattle.std.specs.Prelude.{◌≡◌, ℕ, ◌+◌, ◌*◌, ◌<◌, ◌≤◌, List, length, drop, if◌then◌else◌, nat_eq, slice_index, slice_set};
 ghost use Rattle.index.specs.Chains.{place, Chained};
 ghost use Rattle.index.specs.Uses.{heads, use_by, uses, used, Wide};
@@ -106,13 +107,14 @@ impl<'a, G: Scale> Uses<'a, G> {
         requires keyed { (k : ℕ) → k < 4 * length rules.now → slice_index (used (uses rules.now)) k ≤ 1024 }
         ensures { result.rules.now ≡ rules.now }
     {
-        first.fill(4 * rules.len() as u16);
+        first.fill((4 * rules.len()) as u16);
         chain_uses(rules, first, next);
         Chain { rules, first, next }
     }
 }
 
-// The place `i` comes before those with its key.
+// The place `i` comes before those with its key. Here and below the two tables come apart while they are filled: what a `Chain` says of
+// them is true only at the end.
 fn link(first: &mut [u16], next: &mut [u16], i: usize, key: u16)
     requires keyed { key < length first.old }
     requires within { i < length next.old }
@@ -138,8 +140,8 @@ fn chain_heads<G: Scale>(rules: &[Rule<G>], first: &mut [u16], next: &mut [u16])
     }
 }
 
-// The same of a use. The first place with the key 0, which the absent bodies have, is handed on in place of being kept in `first`: nearly all
-// of the uses may have it, and none then waits for the one before.
+// The same of a use. The first place with the key 0, which the absent bodies have, is handed on in place of being kept in `first`: nearly
+// all of the uses may have it, and none then waits for the one before.
 fn link_use(first: &mut [u16], next: &mut [u16], i: usize, key: u16, absent: u16) -> u16
     requires keyed { key < length first.old }
     requires within { i < length next.old }
@@ -179,7 +181,7 @@ fn link_rule<G>(first: &mut [u16], next: &mut [u16], i: usize, rule: &Rule<G>, a
     link_use(first, next, i, a, absent)
 }
 
-// The uses, four to a rule, by the statements used. `first` comes with no place in it.
+// The uses, four to a rule, by the statements used. `first` comes with no place in it. The loop counts, as that over the heads.
 fn chain_uses<G: Scale>(rules: &[Rule<G>], first: &mut [u16], next: &mut [u16])
     requires few { length rules.now ≤ 4096 }
     requires room { 4 * length rules.now ≤ length next.old }

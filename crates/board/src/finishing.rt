@@ -16,7 +16,8 @@ use model::Rule;
 use pasts::{Refusal, Statement};
 use surveys::Survey;
 
-// Takes the active statement with the lowest number until none is active, and counts how often.
+// Takes the active statement with the lowest number until none is active, and counts how often. No iterator can lend the tables to a
+// step and find the next statement in them.
 fn run<V: Survey>(
     survey: &V,
     statements: &mut [Statement<V::Grade>],

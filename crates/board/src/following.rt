@@ -1,4 +1,5 @@
-// What a scan over all rules does, by the chains of one statement.
+// What a scan over all rules does, by the chains of one statement: each that is told is noted too. Why there are both ways is said in
+// finishing.rt.
 ghost use Rattle.std.specs.Prelude.{◌≡◌, ℕ, ◌-◌, ◌≤◌, ◌≢◌};
 ghost use Rattle.model.specs.Rules.{present};
 ghost use Rattle.model.specs.Least.{worth as worth_of};

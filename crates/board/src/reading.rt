@@ -37,7 +37,7 @@ fn settled<G: Scale>(statements: &[Statement<G>]) -> bool
     next_active(statements).is_none()
 }
 
-// Answers the grade of the open statement `s`, and whether no statement is active.
+// Answers the grade of the open statement `s`, and whether no statement is active: a pair, as the interface has it.
 pub fn read<G: Scale>(
     statements: &[Statement<G>],
     rules: &[Rule<G>],

@@ -47,7 +47,7 @@ fn advance_noted<V: Survey>(
     }
 }
 
-// Takes the active statement with the lowest number until none is active, and counts how often.
+// Takes the active statement with the lowest number until none is active, and counts how often, as `run` does.
 fn run_noted<V: Survey>(
     survey: &V,
     own: &Heads<'_, V::Grade>,

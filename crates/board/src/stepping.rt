@@ -62,7 +62,7 @@ pub(crate) fn advance<V: Survey>(
     rose
 }
 
-// Answers the statement that was taken, and whether it rose.
+// Answers the statement that was taken, and whether it rose: a pair, as the interface has it.
 pub fn step<V: Survey>(
     survey: &V,
     statements: &mut [Statement<V::Grade>],

@@ -14,11 +14,9 @@ pub(crate) fn grade_of<G: Scale>(statements: &[Statement<G>], s: u16) -> G
     requires { 1 ≤ s }
     ensures { result ≡ grades G.meaning statements.now s }
 {
-    let i = s as usize - 1;
-    if i < statements.len() {
-        return statements[i].grade;
-    }
-    G::lowest()
+    statements
+        .get(s as usize - 1)
+        .map_or(G::lowest(), |statement| statement.grade)
 }
 
 // What a rule with this form and weight says, once the grades of its bodies are read: the weight alone if there are none.

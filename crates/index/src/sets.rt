@@ -5,12 +5,12 @@ ghost use Rattle.index.specs.Words.{digit, Has, member, with, trimmed};
 use crate::words::{has, insert, lowest, trim};
 use std::marker::Model;
 
-// As many words as the numbers of a board's statements fill. One size is used, so it is no parameter.
+// As many words as the numbers of a board's statements fill. No parameter: of any number of words a digit's place may not fit its type.
 const WORDS: usize = 16;
 
 #[derive(Drop)]
 pub struct NumberSet {
-    words: [u64; 16],
+    words: [u64; WORDS],
 }
 
 impl Model for NumberSet {

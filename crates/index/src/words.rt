@@ -1,4 +1,5 @@
-// A set of numbers, held as the binary digits of words of 64.
+// A set of numbers, held as the binary digits of words of 64, of which there may be any number. `NumberSet` has as many as a board's
+// statements fill, and works by these functions.
 ghost use Rattle.std.specs.Prelude.{◌≡◌};
 ghost use Rattle.std.specs.Int.Count.{count_trailing_zeros};
 ghost use Rattle.index.specs.Words.{member, with, trimmed};

@@ -17,7 +17,7 @@ pub enum Call<G> {
 }
 
 // `Stepped` has the statement that was taken and whether it rose, `Finished` the number of steps, and `Graded` a grade
-// and whether no statement is active.
+// and whether no statement is active: the flags stay beside their values, as step and read answer them.
 #[derive(Clone, Copy)]
 pub enum Answer<G> {
     Added,

@@ -1,6 +1,7 @@
 -- Percent keeps the laws of a scale, and its codes theirs. Assumes nothing.
 --     number              one held grade is one number
 --     product_rises       a blend does not fall when an operand rises
+--     product_bound       a blend of numbers up to 100 is at most 100
 --     percent_laws        the laws
 --     percent_codes       the laws of the codes, under any bound from 100 on
 --     percent_short_codes, percent_written_codes   under the two bounds that scales ask for
@@ -19,9 +20,12 @@ use Rattle.scales.specs.declared.percent.Percent.{Percent}
 number : (a b : Percent) → Same percents a b → points a ≡ points b
 number a b e = ap (λ x. x.value) e
 
-product_rises : (a b c d : ℕ) → a ≤ c → b ≤ d → product a b ≤ product c d
+pub product_rises : (a b c d : ℕ) → a ≤ c → b ≤ d → product a b ≤ product c d
 product_rises a b c d p q =
     (le-div_iff_mul-le (lit< tt)).1 (le_trans (div-mul-le_self (a * b) 100) (mul-le-mul p q))
+
+pub product_bound : (a b : ℕ) → a ≤ 100 → b ≤ 100 → product a b ≤ 100
+product_bound a b p q = product_rises a b 100 100 p q
 
 -- the highest leaves what is blended into it
 product_full : (b : ℕ) → product 100 b ≡ b
