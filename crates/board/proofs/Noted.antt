@@ -1,5 +1,5 @@
 -- The set of active statements: what keeps it so, and what its words say.
-use Rattle.std.proofs.Common.{◌≡◌, ℕ, ◌*◌, ◌/◌, ◌%◌, ◌<◌, ◌≤◌, true, false, List, length, sum, get_or, set, replicate, sym, refl, ap, ◌∙◌, subst, ⊎_elim, arith, length-set}
+use Rattle.std.proofs.Common.{◌≡◌, ℕ, ◌*◌, ◌/◌, ◌%◌, ◌<◌, ◌≤◌, false, List, length, sum, get_or, set, replicate, sym, ap, ◌∙◌, ⊎_elim, arith}
 use lib.ListN.{length-replicate}
 use Rattle.std.proofs.lemmas.List.{get_or-set_same, get_or-set_other, get_or_past, get_or-replicate}
 use Rattle.std.proofs.lemmas.List.Sums.{sum_by-set}
@@ -8,11 +8,8 @@ use Rattle.scales.specs.Meaning.{Meaning}
 use Rattle.index.specs.Words.{digit, Has, trimmed}
 use Rattle.index.proofs.Digits.{trimming_is, trim_less}
 use Rattle.std.proofs.lemmas.Nat.Bits.{bit_at-zero}
-use Rattle.pasts.specs.Marks.{active, answered}
+use Rattle.pasts.specs.Marks.{active}
 use Rattle.pasts.specs.Tables.{unopened}
-use Rattle.pasts.specs.declared.statement.Event.TheVariants.{Taken}
-use Rattle.pasts.specs.declared.statement.Mark.{Mark}
-use Rattle.pasts.specs.declared.statement.Mark.TheVariants.{Unopened, Quiet, Active}
 use Rattle.pasts.specs.declared.statement.Statement.{Statement}
 use Rattle.board.specs.Indexed.{Noted, Resting}
 
@@ -32,29 +29,7 @@ sum_falls words i has =
     omega (arith, sum_by-set (λ x. x) words (i / 64) (trimmed (get_or words (i / 64) 0)) 0 at.0)
 
 module _ {G : Type 0} (m : Meaning G) where
-  -- one statement changed, and the set only grew
-  pub noted_set : (words more : List ℕ) (xs : List (Statement G)) (k : ℕ) (x : Statement G) → Noted m words xs → ((j : ℕ) → Has words j → Has more j) → (k < length xs → active x.mark ≡ true → Has more k) → Noted m more (set xs k x)
-  noted_set words more xs k x noted kept here i h a =
-      let n = length-set xs k x in
-      let l : i < length xs = omega arith in
-      ⊎_elim
-      (λ (e : i ≡ k).
-      let F : ℕ → Type 0 = Has more in
-      let at : k < length xs = omega arith in
-      let is : get_or (set xs k x) i (unopened m) ≡ x = ap (λ j. get_or (set xs k x) j (unopened m)) e ∙ get_or-set_same xs k x (unopened m) at in
-      subst F (sym e) (here at (sym (ap (λ y. active y.mark) is) ∙ a)))
-      (λ (ne : i ≡ k → ⊥). kept i (noted i l (sym (ap (λ y. active y.mark) (get_or-set_other xs k i x (unopened m) ne)) ∙ a)))
-      (cases_eq i k)
-
   module _ (xs : List (Statement G)) where
-    -- what is not in the set is not active
-    unnoted : (words : List ℕ) (i : ℕ) → Noted m words xs → i < length xs → digit (i % 64) (get_or words (i / 64) 0) ≡ 0 → active (get_or xs i (unopened m)).mark ≡ false
-    unnoted words i noted h z =
-        ⊎_elim
-        (λ a. let one = noted i h a in absurd (omega arith))
-        (λ a. a)
-        (cases_Bool (active (get_or xs i (unopened m)).mark))
-
     past_end : (i : ℕ) → length xs ≤ i → active (get_or xs i (unopened m)).mark ≡ false
     past_end i h = ap (λ y. active y.mark) (get_or_past xs i (unopened m) h)
 
@@ -96,12 +71,6 @@ module _ {G : Type 0} (m : Meaning G) where
         ap (λ k. digit (j % 64) (get_or (set words (i / 64) (trimmed word)) k 0)) at ∙ ap (digit (j % 64)) (get_or-set_same words (i / 64) (trimmed word) 0 (word_of words i has).0) ∙ trimming_is.kept word (i % 64) (j % 64) (omega arith) has here)
         (λ ne. ap (digit (j % 64)) (get_or-set_other words (i / 64) (j / 64) (trimmed word) 0 ne) ∙ was)
         (cases_eq (j / 64) (i / 64))
-
--- what was taken is not active
-pub taken_rests : (k : Mark) → active (answered k Taken) ≡ false
-taken_rests Unopened = refl
-taken_rests Quiet = refl
-taken_rests Active = refl
 
 -- an empty set has no number
 pub none_in : (words : List ℕ) → words ≡ replicate 16 0 → (i : ℕ) → Has words i → ⊥
