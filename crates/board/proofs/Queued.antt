@@ -1,15 +1,15 @@
 -- Flags that spread from a statement to all that lead to it, by a queue.
-use Rattle.std.proofs.Common.{◌≡◌, ℕ, ◌+◌, ◌-◌, ◌<◌, ◌≤◌, Bool, true, false, not, ◌≢◌, ◌⊎◌, List, length, get_or, set, count_by, sym, refl, ap, ◌∙◌, subst, inl, inr, ⊎_elim, arith, length-set}
+use Rattle.std.proofs.Common.{◌≡◌, ℕ, ◌+◌, ◌-◌, ◌<◌, ◌≤◌, Bool, true, false, not, ◌≢◌, ◌⊎◌, List, length, get_or, set, replicate, count_by, sym, refl, ap, ◌∙◌, subst, inl, inr, ⊎_elim, arith, length-set}
+use lib.ListN.{length-replicate}
 use Rattle.std.proofs.lemmas.List.{get_or-set_same, get_or-set_other}
-use Rattle.std.proofs.lemmas.Bool.{both_ways, cases_eq, cases_lt}
-use Rattle.std.proofs.lemmas.List.Sums.{count_by-le-length}
+use Rattle.std.proofs.lemmas.Bool.{cases_eq, cases_lt}
 use Rattle.model.specs.Rules.{son, Leads, here, by_son}
 use Rattle.model.specs.Formed.{malformed}
 use Rattle.model.specs.Least.{On}
 use Rattle.model.specs.declared.rule.Rule.{Rule}
 use Rattle.model.proofs.Sons.{son_on}
 use Rattle.board.specs.Flags.{flagged, Waits, Closed, Grown}
-use Rattle.board.proofs.Spread.{fewer, flag_more, flag_kept}
+use Rattle.board.proofs.Spread.{fewer, flag_more, flag_kept, flag_alone, flags_left}
 
 module _ {G : Type 0} where
   -- where all flags have spread, all that lead to a flagged statement are flagged
@@ -71,22 +71,23 @@ pub record Spreading {G : Type 0} (rs : List (Rule G)) (h : ℕ) (fl : List Bool
   pub within : d ≤ n
 
 module _ {G : Type 0} (rs : List (Rule G)) (h : ℕ) where
-  pub spreading_first : (fl : List Bool) (queue : List ℕ) → On (length fl) h → ((s : ℕ) → flagged fl s ≡ false) → 0 < length queue → Spreading rs h (set fl (h - 1) true) (set queue 0 h) 0 1
-  spreading_first fl queue on none room =
+  pub spreading_first : (n : ℕ) (queue : List ℕ) → On n h → 0 < length queue → Spreading rs h (set (replicate n false) (h - 1) true) (set queue 0 h) 0 1
+  spreading_first n queue on room =
+      let fl = replicate n false in
+      let wide : length fl ≡ n = length-replicate n false in
       let long = length-set fl (h - 1) true in
       let first : get_or (set queue 0 h) 0 0 ≡ h = get_or-set_same queue 0 h 0 room in
       let own : flagged (set fl (h - 1) true) h ≡ true = get_or-set_same fl (h - 1) true false (omega arith) in
-      let alone : (t : ℕ) → 1 ≤ t → flagged (set fl (h - 1) true) t ≡ true → t ≡ h = λ t pos f. ⊎_elim (λ q. q) (λ q. absurd (both_ways (flagged fl t) (none t) q)) (flag_more fl h t on pos f) in
       record {
-        only = λ t pos f. let F : ℕ → Type 0 = λ j. Leads rs j h in subst F (sym (alone t pos f)) here;
+        only = λ t pos f. let F : ℕ → Type 0 = λ j. Leads rs j h in subst F (sym (flag_alone n h t on pos f)) here;
         own = own;
-        few = let less = fewer fl (h - 1) (omega arith) (none h) in let most = count_by-le-length not fl in omega arith;
+        few = omega (arith, flags_left n h on);
         named = λ i l.
             let F : ℕ → Type 0 = λ j. On (length (set fl (h - 1) true)) (get_or (set queue 0 h) j 0) × (flagged (set fl (h - 1) true) (get_or (set queue 0 h) j 0) ≡ true) in
             let K : ℕ → Type 0 = λ j. On (length (set fl (h - 1) true)) j × (flagged (set fl (h - 1) true) j ≡ true) in
             let at : 0 ≡ i = omega arith in
             subst F at (subst K (sym first) ((on.0, omega arith), own));
-        open_yet = λ t pos f. inl (0, omega arith, omega arith, first ∙ sym (alone t pos f));
+        open_yet = λ t pos f. inl (0, omega arith, omega arith, first ∙ sym (flag_alone n h t on pos f));
         within = omega arith;
       }
 

@@ -1,8 +1,9 @@
 -- Flags that spread from a statement to all that lead to it.
-use Rattle.std.proofs.Common.{◌≡◌, ℕ, zero, suc, ◌+◌, ◌-◌, ◌<◌, ◌≤◌, Bool, true, false, cond, not, ◌&&◌, ◌||◌, eqb, ltb, ◌≢◌, ◌⊎◌, List, [], ◌∷◌, length, get_or, drop, set, Some, None, count_by, Option, sym, refl, ap, ◌∙◌, subst, inl, inr, ⊎_elim, arith}
-use Rattle.std.proofs.lemmas.List.{get_or-set_same, get_or-set_other}
-use Rattle.std.proofs.lemmas.Bool.{and_parts, and_cases, or_cases, or_parts, or_left, or_right, or_from, and_left, and_right, le-ltb, eq-eqb, ne_eqb, eqb-true, eqb-false, ltb-false, not-true, not-false, not_from_false, both_ways, cond-true, cond-false, cases_eq}
-use Rattle.std.proofs.lemmas.List.Sums.{sum_by-set}
+use Rattle.std.proofs.Common.{◌≡◌, ℕ, zero, suc, ◌+◌, ◌-◌, ◌<◌, ◌≤◌, Bool, true, false, cond, not, ◌&&◌, ◌||◌, eqb, ltb, ◌≢◌, ◌⊎◌, List, [], ◌∷◌, length, get_or, drop, set, replicate, Some, None, count_by, Option, sym, refl, ap, ◌∙◌, subst, inl, inr, ⊎_elim, arith}
+use lib.ListN.{length-replicate}
+use Rattle.std.proofs.lemmas.List.{get_or-set_same, get_or-set_other, get_or-replicate, get_or_past}
+use Rattle.std.proofs.lemmas.Bool.{and_parts, and_cases, or_cases, or_parts, or_left, or_right, or_from, and_left, and_right, le-ltb, eq-eqb, ne_eqb, eqb-true, eqb-false, ltb-false, not-true, not-false, not_from_false, both_ways, cond-true, cond-false, cases_eq, cases_lt}
+use Rattle.std.proofs.lemmas.List.Sums.{sum_by-set, count_by-le-length}
 use Rattle.model.specs.Least.{On}
 use Rattle.model.specs.Rules.{present, holds, son, Leads, here, by_son}
 use Rattle.model.specs.Formed.{malformed, malformed_place, body_above, gap}
@@ -183,3 +184,25 @@ flag_kept fl p s on pos e =
     (λ q. let at : s - 1 ≡ p - 1 = omega arith in ap (λ k. get_or (set fl (p - 1) true) k false) at ∙ get_or-set_same fl (p - 1) true false (omega arith))
     (λ q. let apart : s - 1 ≢ p - 1 = λ r. q (omega arith) in get_or-set_other fl (p - 1) (s - 1) true false apart ∙ e)
     (cases_eq s p)
+
+-- one flag alone
+none_flagged : (n s : ℕ) → flagged (replicate n false) s ≡ false
+none_flagged n s =
+    ⊎_elim
+    (λ h. get_or-replicate n (s - 1) false false h)
+    (λ h. get_or_past (replicate n false) (s - 1) false (rw length-replicate h))
+    (cases_lt (s - 1) n)
+
+pub flag_alone : (n h s : ℕ) → On n h → 1 ≤ s → flagged (set (replicate n false) (h - 1) true) s ≡ true → s ≡ h
+flag_alone n h s on pos e =
+    let long : length (replicate n false) ≡ n = length-replicate n false in
+    ⊎_elim (λ q. q) (λ q. absurd (both_ways (flagged (replicate n false) s) (none_flagged n s) q)) (flag_more (replicate n false) h s (on.0, omega arith) pos e)
+
+-- no flag is left to set but these
+pub flags_left : (n h : ℕ) → On n h → 1 + count_by not (set (replicate n false) (h - 1) true) ≤ n
+flags_left n h on =
+    let fl = replicate n false in
+    let long : length fl ≡ n = length-replicate n false in
+    let less = fewer fl (h - 1) (omega arith) (none_flagged n h) in
+    let most = count_by-le-length not fl in
+    omega arith

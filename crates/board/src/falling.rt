@@ -1,14 +1,14 @@
 // The open statements that lead to a withdrawn rule's head fall.
-ghost use Rattle.std.specs.Prelude.{◌≡◌, ℕ, ◌<◌, ◌≤◌, false, length, replicate, slice_index_or};
+ghost use Rattle.std.specs.Prelude.{◌≡◌, ℕ, ◌<◌, ◌≤◌, false, length, slice_index_or};
 ghost use Rattle.model.specs.Formed.{malformed};
 ghost use Rattle.model.specs.Least.{On};
 ghost use Rattle.pasts.specs.Tables.{unopened};
-ghost use Rattle.board.specs.Flags.{flagged, fallen, Leading, Falls};
+ghost use Rattle.board.specs.Flags.{fallen, Leading, Falls};
 
 use crate::chaining::FEW;
 use crate::checking::MOST_PLACES;
-use crate::leading::flag_leading;
-use crate::reaching::flag_by_chains;
+use crate::leading::leading_by_search;
+use crate::reaching::leading_by_chains;
 use model::Rule;
 use pasts::{Event, Statement};
 use scales::Scale;
@@ -25,9 +25,9 @@ fn lowered<G: Scale>(x: Statement<G>, leads: bool) -> Statement<G>
     x
 }
 
-// The flagged statements that are open fall.
-fn fall<G: Scale>(statements: &mut [Statement<G>], flags: &[bool])
-    requires { length statements.old ≤ length flags.now }
+// The flagged statements that are open fall. By index: after a `zip` of `iter_mut` no proof knows what was written.
+fn fall<G: Scale>(statements: &mut [Statement<G>], flags: &[bool; 1024])
+    requires { length statements.old ≤ 1024 }
     ensures { (i : ℕ) → i < length statements.old → slice_index_or statements.new i (unopened G.meaning) ≡ fallen G.meaning (slice_index_or flags.now i false) (slice_index_or statements.old i (unopened G.meaning)) }
 {
     for (i, x) in statements.iter_mut().enumerate() {
@@ -35,24 +35,16 @@ fn fall<G: Scale>(statements: &mut [Statement<G>], flags: &[bool])
     }
 }
 
-fn no_flags() -> [bool; 1024]
-    ensures { result ≡ replicate 1024 false }
-{
-    [false; 1024]
-}
-
-// Flags exactly the statements that lead to `head`, in the way that suits the table's length.
-fn flag<G: Scale>(rules: &[Rule<G>], head: u16, flags: &mut [bool])
-    requires on { On (length flags.old) head }
-    requires long { length flags.old ≤ 1024 }
-    requires formed { malformed (length flags.old) rules.now ≡ false }
-    requires none { (s : ℕ) → flagged flags.old s ≡ false }
-    ensures { Leading rules.now head flags.new }
+// Flags on exactly the statements that lead to `head`, found in the way that suits the table's length.
+fn leading<G: Scale>(rules: &[Rule<G>], head: u16) -> [bool; 1024]
+    requires on { On 1024 head }
+    requires formed { malformed 1024 rules.now ≡ false }
+    ensures { Leading rules.now head result }
 {
     if rules.len() <= FEW || MOST_PLACES < rules.len() {
-        flag_leading(rules, head, flags);
+        leading_by_search(rules, head)
     } else {
-        flag_by_chains(rules, head, flags);
+        leading_by_chains(rules, head)
     }
 }
 
@@ -63,7 +55,6 @@ pub(crate) fn fall_from<G: Scale>(statements: &mut [Statement<G>], rules: &[Rule
     requires formed { malformed (length statements.old) rules.now ≡ false }
     ensures { Falls G.meaning rules.now head statements.old statements.new }
 {
-    let mut flags = no_flags();
-    flag(rules, head, &mut flags);
+    let flags = leading(rules, head);
     fall(statements, &flags);
 }

@@ -1,5 +1,5 @@
 // Which statements lead to one: flags that spread from it, from son to parent.
-ghost use Rattle.std.specs.Prelude.{◌≡◌, ℕ, ◌≤◌, false, length};
+ghost use Rattle.std.specs.Prelude.{◌≡◌, ◌≤◌, false};
 ghost use Rattle.std.specs.List.{list_any};
 ghost use Rattle.model.specs.Formed.{malformed};
 ghost use Rattle.model.specs.Least.{On};
@@ -36,15 +36,16 @@ fn next_parent<G: Scale>(rules: &[Rule<G>], flags: &[bool]) -> Option<u16>
     None
 }
 
-// Flags exactly the statements that lead to `head`.
-pub(crate) fn flag_leading<G: Scale>(rules: &[Rule<G>], head: u16, flags: &mut [bool])
-    requires on { On (length flags.old) head }
-    requires formed { malformed (length flags.old) rules.now ≡ false }
-    requires none { (s : ℕ) → flagged flags.old s ≡ false }
-    ensures { Leading rules.now head flags.new }
+// Flags on exactly the statements that lead to `head`.
+pub(crate) fn leading_by_search<G: Scale>(rules: &[Rule<G>], head: u16) -> [bool; 1024]
+    requires on { On 1024 head }
+    requires formed { malformed 1024 rules.now ≡ false }
+    ensures { Leading rules.now head result }
 {
+    let mut flags = [false; 1024];
     flags[head as usize - 1] = true;
-    while let Some(p) = next_parent(rules, flags) {
+    while let Some(p) = next_parent(rules, &flags) {
         flags[p as usize - 1] = true;
     }
+    flags
 }

@@ -1,7 +1,8 @@
 // Tables whose items are numbered from 1.
 ghost use Rattle.std.specs.Prelude.{◌≡◌, ◌-◌, ◌≤◌, slice_index_or, slice_set};
 
-// The item with the number `k`, or else `other`.
+// The item with the number `k`, or else `other`. A number is a `u16` from 1 on, and no `NonZeroU16`: the lent records hold it as a `u16`,
+// where 0 says that there is none, and each use would convert.
 pub(crate) fn at<T: Copy>(items: &[T], k: u16, other: T) -> T
     requires { 1 ≤ k }
     ensures { result ≡ slice_index_or items.now (k - 1) other }

@@ -1,8 +1,8 @@
 // Which statements lead to one, as in leading.rt, for a large board: flags spread by the chains of uses, from a queue.
-ghost use Rattle.std.specs.Prelude.{◌≡◌, ℕ, ◌+◌, ◌≤◌, true, false, not, length, count_by};
+ghost use Rattle.std.specs.Prelude.{◌≡◌, ◌+◌, ◌≤◌, true, false, not, length, count_by};
 ghost use Rattle.model.specs.Formed.{malformed};
 ghost use Rattle.model.specs.Least.{On};
-ghost use Rattle.board.specs.Flags.{flagged, Closed, Grown, Leading};
+ghost use Rattle.board.specs.Flags.{Closed, Grown, Leading};
 
 use crate::chaining::Uses;
 use crate::leading::is_flagged;
@@ -15,13 +15,12 @@ use scales::Scale;
 fn flag_parents<G: Scale>(
     uses: &Uses<'_, G>,
     s: u16,
-    flags: &mut [bool],
+    flags: &mut [bool; 1024],
     queue: &mut [u16; 1024],
     waiting: usize,
 ) -> usize
-    requires on { On (length flags.old) s }
-    requires few { length flags.old ≤ 1024 }
-    requires formed { malformed (length flags.old) uses.now.rules.now ≡ false }
+    requires on { On 1024 s }
+    requires formed { malformed 1024 uses.now.rules.now ≡ false }
     requires fits { waiting + count_by not flags.old ≤ 1024 }
     ensures grown { Grown uses.now.rules.now s flags.old queue.old waiting flags.new queue.new result }
     ensures closed { Closed uses.now.rules.now flags.new s }
@@ -38,37 +37,35 @@ fn flag_parents<G: Scale>(
     end
 }
 
-// Flags exactly the statements that lead to `head`, by the chains of the uses.
-fn flag_queued<G: Scale>(uses: &Uses<'_, G>, head: u16, flags: &mut [bool])
-    requires on { On (length flags.old) head }
-    requires few { length flags.old ≤ 1024 }
-    requires formed { malformed (length flags.old) uses.now.rules.now ≡ false }
-    requires none { (s : ℕ) → flagged flags.old s ≡ false }
-    ensures { Leading uses.now.rules.now head flags.new }
+// Flags on exactly the statements that lead to `head`, by the chains of the uses.
+fn leading_by_uses<G: Scale>(uses: &Uses<'_, G>, head: u16) -> [bool; 1024]
+    requires on { On 1024 head }
+    requires formed { malformed 1024 uses.now.rules.now ≡ false }
+    ensures { Leading uses.now.rules.now head result }
 {
+    let mut flags = [false; 1024];
     let mut queue = [0; 1024];
-    put(flags, head, true);
+    put(&mut flags, head, true);
     queue[0] = head;
     let mut waiting = 1;
     let mut done = 0;
     while done < waiting {
         let s = queue[done];
-        waiting = flag_parents(uses, s, flags, &mut queue, waiting);
+        waiting = flag_parents(uses, s, &mut flags, &mut queue, waiting);
         done += 1;
     }
+    flags
 }
 
-// Flags exactly the statements that lead to `head`.
-pub(crate) fn flag_by_chains<G: Scale>(rules: &[Rule<G>], head: u16, flags: &mut [bool])
-    requires on { On (length flags.old) head }
-    requires long { length flags.old ≤ 1024 }
+// Flags on exactly the statements that lead to `head`.
+pub(crate) fn leading_by_chains<G: Scale>(rules: &[Rule<G>], head: u16) -> [bool; 1024]
+    requires on { On 1024 head }
     requires places { length rules.now ≤ 4096 }
-    requires formed { malformed (length flags.old) rules.now ≡ false }
-    requires none { (s : ℕ) → flagged flags.old s ≡ false }
-    ensures { Leading rules.now head flags.new }
+    requires formed { malformed 1024 rules.now ≡ false }
+    ensures { Leading rules.now head result }
 {
     let mut first = [0; 1025];
     let mut next = [0; 16384];
     let uses = Uses::by_bodies(rules, &mut first, &mut next);
-    flag_queued(&uses, head, flags);
+    leading_by_uses(&uses, head)
 }

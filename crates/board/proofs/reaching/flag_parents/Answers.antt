@@ -18,33 +18,32 @@ pub loop-rule-init : goal.loop-rule-init
 loop-rule-init g c =
     let rs = c.args.uses.now.rules.now in
     let s = c.args.s in
-    let n = length c.args.flags.now in
     let all = ap (λ it. chosen it.key (drop it.at (keyed 4 it.rules.now))) c.into_iter-rule-iterator.ensures.into_iter_gives ∙ c.of-rule-items.ensures in
     let same = users_chosen s rs ∙ sym (ap heads all) in
-    let P : List ℕ → Type 0 = All (λ p. On n p × (son rs p s ≡ true)) in (
+    let P : List ℕ → Type 0 = All (λ p. On 1024 p × (son rs p s ≡ true)) in (
       grown_none rs s c.args.flags.now c.args.queue.now c.args.waiting,
       (λ p low h. inr (ap (λ l. holds l p) (sym same) ∙ h)),
-      subst P same (users_on n s c.requires.on.0 rs (c.args.uses.now.wide (omega arith)) c.requires.formed),
+      subst P same (users_on 1024 s c.requires.on.0 rs (c.args.uses.now.wide (omega arith)) c.requires.formed),
     )
 
 pub is_flagged-requires : goal.is_flagged-requires
 is_flagged-requires g c =
     let rs = c.args.uses.now.rules.now in
-    let P : List ℕ → Type 0 = All (λ p. On (length c.args.flags.now) p × (son rs p c.args.s ≡ true)) in
+    let P : List ℕ → Type 0 = All (λ p. On 1024 p × (son rs p c.args.s ≡ true)) in
     (subst P (ap heads c.in-Some.ensures.steps) c.loop-rule.invariant.2).0.0.0
 
 pub put-requires : goal.put-requires
 put-requires g c =
     let rs = c.args.uses.now.rules.now in
-    let P : List ℕ → Type 0 = All (λ p. On (length c.args.flags.now) p × (son rs p c.args.s ≡ true)) in
+    let P : List ℕ → Type 0 = All (λ p. On 1024 p × (son rs p c.args.s ≡ true)) in
     (subst P (ap heads c.in-Some.ensures.steps) c.loop-rule.invariant.2).0.0.0
 
 pub bounds-queue-end : goal.bounds-queue-end
 bounds-queue-end g c =
     let rs = c.args.uses.now.rules.now in
-    let P : List ℕ → Type 0 = All (λ p. On (length c.args.flags.now) p × (son rs p c.args.s ≡ true)) in
+    let P : List ℕ → Type 0 = All (λ p. On 1024 p × (son rs p c.args.s ≡ true)) in
     let on = (subst P (ap heads c.in-Some.ensures.steps) c.loop-rule.invariant.2).0.0 in
-    let less = fewer c.loop-rule.flags (c.in-Some.rule.now.head - 1) (omega (arith, on.0, on.1, c.loop-rule.auto.flags)) (sym c.if-not-is_flagged.ensures) in
+    let less = fewer c.loop-rule.flags (c.in-Some.rule.now.head - 1) (omega (arith, on.0, on.1)) (sym c.if-not-is_flagged.ensures) in
     omega (arith, c.loop-rule.invariant.0.few, c.requires.fits)
 
 -- who is a parent has a flag, or is still to come
@@ -62,15 +61,14 @@ pub loop-rule-preserved-then-not-is_flagged : goal.loop-rule-preserved-then-not-
 loop-rule-preserved-then-not-is_flagged g c =
     let rs = c.args.uses.now.rules.now in
     let s = c.args.s in
-    let n = length c.args.flags.now in
     let fl = c.loop-rule.flags in
     let p = c.in-Some.rule.now.head in
     let it = c.next.new.self in
     let turn = ap heads c.in-Some.ensures.steps in
-    let P : List ℕ → Type 0 = All (λ p. On n p × (son rs p s ≡ true)) in
+    let P : List ℕ → Type 0 = All (λ p. On 1024 p × (son rs p s ≡ true)) in
     let all = subst P turn c.loop-rule.invariant.2 in
     let new = sym c.if-not-is_flagged.ensures in
-    let on : On (length fl) p = (all.0.0.0, omega (arith, all.0.0.1, c.loop-rule.auto.flags)) in
+    let on : On (length fl) p = (all.0.0.0, omega (arith, all.0.0.1)) in
     let less = fewer fl (p - 1) (omega arith) new in (
       rw c.put.ensures (grown_more rs s c.args.flags.now c.args.queue.now c.args.waiting fl c.loop-rule.queue c.loop-rule.end p c.loop-rule.invariant.0 on all.0.1 new (omega (arith, c.loop-rule.invariant.0.few, c.requires.fits))),
       goes fl c.put.new.items p (heads (chosen it.key (drop it.at (keyed 4 it.rules.now)))) _ (users (uses rs) s) turn
@@ -84,12 +82,11 @@ pub loop-rule-preserved : goal.loop-rule-preserved
 loop-rule-preserved g c =
     let rs = c.args.uses.now.rules.now in
     let s = c.args.s in
-    let n = length c.args.flags.now in
     let fl = c.loop-rule.flags in
     let p = c.in-Some.rule.now.head in
     let it = c.next.new.self in
     let turn = ap heads c.in-Some.ensures.steps in
-    let P : List ℕ → Type 0 = All (λ p. On n p × (son rs p s ≡ true)) in
+    let P : List ℕ → Type 0 = All (λ p. On 1024 p × (son rs p s ≡ true)) in
     let all = subst P turn c.loop-rule.invariant.2 in (
       c.loop-rule.invariant.0,
       goes fl fl p (heads (chosen it.key (drop it.at (keyed 4 it.rules.now)))) _ (users (uses rs) s) turn (λ q pos f. f) (sym c.if-not-is_flagged.ensures) c.loop-rule.invariant.1,

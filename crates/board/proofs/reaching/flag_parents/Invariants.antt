@@ -1,4 +1,4 @@
-use Rattle.std.proofs.Common.{◌≡◌, ℕ, ◌≤◌, true, ◌⊎◌, length, drop}
+use Rattle.std.proofs.Common.{◌≡◌, ℕ, ◌≤◌, true, ◌⊎◌, drop}
 use Rattle.std.specs.List.{AllByRecursion as All}
 use Rattle.model.specs.Rules.{holds, son}
 use Rattle.model.specs.Least.{On}
@@ -14,4 +14,4 @@ invariant-loop-rule g l =
     let rest = heads (chosen it.key (drop it.at (keyed 4 it.rules.now))) in
     Grown rs l.s l.initial.flags l.initial.queue l.waiting l.flags l.queue l.end
     × ((p : ℕ) → 1 ≤ p → holds (users (uses rs) l.s) p ≡ true → (flagged l.flags p ≡ true) ⊎ (holds rest p ≡ true))
-    × All (λ p. On (length l.initial.flags) p × (son rs p l.s ≡ true)) rest
+    × All (λ p. On 1024 p × (son rs p l.s ≡ true)) rest
