@@ -1,17 +1,34 @@
 // Verdict: what two witnesses make of a statement, on four grades.
-ghost use Rattle.scales.specs.Verdicts.{verdicts, verdict_coding};
+ghost use Rattle.std.specs.Prelude.{◌≡◌, ◌≤◌, Some};
+ghost use Rattle.scales.specs.Verdicts.{decode, verdicts, verdict_coding};
 ghost use Rattle.scales.specs.VerdictLaws.{verdict_laws, verdict_short_codes, verdict_written_codes, verdict_low};
 
 use crate::scale::{Scale, Short, Written};
 
 // False lies below unknown (nobody says so) and inconsistent (they contradict), which lie below true and are not comparable.
-// Each has its code as its number.
+// Each has its code as its number, of two binary digits: the first is set where someone says so, the second where nobody says not. Both
+// rise with the grade, so join and meet are those of the digits, with no branches.
 #[derive(Clone, Copy, Debug, PartialEq, Eq)]
 pub enum Verdict {
     False = 0,
     Unknown = 1,
     Inconsistent = 2,
     True = 3,
+}
+
+impl Verdict {
+    // The verdict with this code.
+    fn of_code(code: u8) -> Verdict
+        requires { code ≤ 3 }
+        ensures { decode code ≡ Some result }
+    {
+        match code {
+            0 => Verdict::False,
+            1 => Verdict::Unknown,
+            2 => Verdict::Inconsistent,
+            _ => Verdict::True,
+        }
+    }
 }
 
 impl Scale for Verdict {
@@ -28,23 +45,11 @@ impl Scale for Verdict {
     }
 
     fn join(self, other: Verdict) -> Verdict {
-        if self.at_or_below(other) {
-            other
-        } else if other.at_or_below(self) {
-            self
-        } else {
-            Verdict::True
-        }
+        Verdict::of_code(self as u8 | other as u8)
     }
 
     fn meet(self, other: Verdict) -> Verdict {
-        if self.at_or_below(other) {
-            self
-        } else if other.at_or_below(self) {
-            other
-        } else {
-            Verdict::False
-        }
+        Verdict::of_code(self as u8 & other as u8)
     }
 
     fn blend(self, other: Verdict) -> Verdict {
@@ -52,7 +57,7 @@ impl Scale for Verdict {
     }
 
     fn at_or_below(self, other: Verdict) -> bool {
-        self == other || self == Verdict::False || other == Verdict::True
+        self as u8 & other as u8 == self as u8
     }
 
     fn level(self) -> u16 {
@@ -81,13 +86,7 @@ impl Short for Verdict {
 
     // The error of a `TryFrom` would say no more than `None`.
     fn decode_short(code: u8) -> Option<Verdict> {
-        match code {
-            0 => Some(Verdict::False),
-            1 => Some(Verdict::Unknown),
-            2 => Some(Verdict::Inconsistent),
-            3 => Some(Verdict::True),
-            _ => None,
-        }
+        (code <= 3).then(|| Verdict::of_code(code))
     }
 }
 
