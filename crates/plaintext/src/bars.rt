@@ -12,7 +12,7 @@ fn filled(level: u16, height: u16) -> u32
     if height == 0 {
         return 0;
     }
-    WIDTH * level as u32 / height as u32
+    WIDTH * u32::from(level) / u32::from(height)
 }
 
 // A `#` for each twentieth of the height that the level reaches.

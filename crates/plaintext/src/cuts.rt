@@ -51,11 +51,7 @@ pub fn some_word(line: &[u8]) -> Option<(&[u8], &[u8])>
     ensures shorter { IfSome result (λ x. length x.1.now < length line.now) }
 {
     let (word, rest) = next_word(line);
-    if word.is_empty() {
-        None
-    } else {
-        Some((word, rest))
-    }
+    (!word.is_empty()).then_some((word, rest))
 }
 
 // Whether the line has no word.

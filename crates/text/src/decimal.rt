@@ -44,7 +44,7 @@ pub fn write_number(n: u32, out: &mut [u8])
     requires { length out.old ≡ 5 }
     ensures { out.new ≡ written n }
 {
-    // a copy out of an array of the five takes twice as long
+    // one by one: five columns copied from an array of their own take twice as long
     out[0] = digit(n, 10000);
     out[1] = digit(n, 1000);
     out[2] = digit(n, 100);

@@ -25,7 +25,7 @@ pub fn read_number(field: &[u8; 5], place: Place) -> Result<u32, FieldFault>
 pub fn read_form(letter: u8, place: Place) -> Result<Form, FieldFault>
     ensures { field_risen result ≡ judged (form_checks letter place.line place.column) (form_of letter) }
 {
-    Form::from_letter(letter as char).ok_or(FieldFault {
+    Form::from_letter(char::from(letter)).ok_or(FieldFault {
         refusal: Refusal::Letter,
         place,
     })

@@ -44,6 +44,7 @@ impl<const W: usize> Line<'_, W> {
         requires { (1 ≤ column) × (column + 4 ≤ W) }
         ensures { result.now ≡ five column self.now.bytes.now }
     {
+        // a slice of all the bytes first: cut from the array itself, a goal was left open
         let bytes = self.bytes;
         let bytes = &bytes[..];
         bytes[column - 1..].first_chunk().unwrap()

@@ -10,7 +10,8 @@ pub struct Numbered<G> {
 }
 
 impl<G: Copy> Numbered<G> {
-    // The rule comes to the place that has its mark as its number, if there is such a place.
+    // The rule comes to the place that has its mark as its number, if there is such a place. Board has the same for its own
+    // tables, and keeps it private.
     pub fn put(self, rules: &mut [Rule<G>])
         requires { 1 ≤ self.mark }
         ensures { rules.new ≡ slice_set rules.old (self.mark - 1) self.rule }

@@ -5,6 +5,7 @@ ghost use Rattle.text.specs.Lines.{line as front_line, after};
 
 use std::marker::Model;
 
+// By a rule of the project a reader is a struct with an invariant: its place lies within the text.
 #[derive(Drop)]
 pub struct Reader<'a> {
     text: &'a [u8],

@@ -51,6 +51,7 @@ impl Line<'_, HEADER> {
     }
 }
 
+// Each with its own checks in their order: by one function with a closure they would be no shorter.
 impl Line<'_, ROW> {
     fn mark(&self, last: u16, places: u16) -> Result<u16, Fault>
         ensures { result ≡ judged (mark_checks places last self.now.number self.now.bytes.now) (number_in self.now.bytes.now 2) }

@@ -7,6 +7,7 @@ ghost use Rattle.text.specs.Loads.{Writes};
 ghost use Rattle.text.specs.Spelling.{header_front, row_bytes};
 
 use crate::decimal::write_number;
+use crate::lines::{HEADER, ROW};
 use board::check_tables;
 use model::Rule;
 use pasts::{Refusal, Statement};
@@ -20,7 +21,7 @@ fn write_header(statements: u32, rules: u32, out: &mut [u8])
     out[0] = b'B';
     write_number(statements, &mut out[1..6]);
     write_number(rules, &mut out[6..11]);
-    out[11] = b'\n';
+    out[HEADER] = b'\n';
 }
 
 // Writes the line of the rule with the mark at the front of `out`, and leaves the rest alone.
@@ -39,7 +40,7 @@ fn write_rule<G: Written>(mark: u16, rule: &Rule<G>, out: &mut [u8])
     write_number(bodies[1] as u32, &mut out[22..27]);
     write_number(bodies[2] as u32, &mut out[27..32]);
     write_number(bodies[3] as u32, &mut out[32..37]);
-    out[37] = b'\n';
+    out[ROW] = b'\n';
 }
 
 // How many rules the table holds.
@@ -55,18 +56,18 @@ fn write_rules<G: Written>(rules: &[Rule<G>], out: &mut [u8])
     requires room { 38 * length (held 1 rules.now) ≤ length out.old }
     ensures { out.new ≡ flat_map (row_bytes G.coding) (held 1 rules.now) ++ drop (38 * length (held 1 rules.now)) out.old }
 {
-    // counted in bytes, for the same reason
+    // counted in bytes: of what chunks_exact_mut lends no proof knows what was written
     let mut at = 0;
     for (i, rule) in rules.iter().enumerate() {
         if rule.head != 0 {
             write_rule(i as u16 + 1, rule, &mut out[at..]);
-            at += 38;
+            at += ROW + 1;
         }
     }
 }
 
-#[tactic(auto, using(crate::proofs::Holding::held_count))]
 // Spells the board at the front of the buffer, leaves the rest of it alone, and answers the length of the text.
+#[tactic(auto, using(crate::proofs::Holding::held_count))]
 pub fn write<G: Written>(
     statements: &[Statement<G>],
     rules: &[Rule<G>],
@@ -76,11 +77,11 @@ pub fn write<G: Written>(
 {
     check_tables(statements, rules)?;
     let held = count_rules(rules);
-    let length = 12 + 38 * held;
+    let length = HEADER + 1 + (ROW + 1) * held;
     if buffer.len() < length {
         return Err(Refusal::BufferShort);
     }
     write_header(statements.len() as u32, held as u32, buffer);
-    write_rules(rules, &mut buffer[12..]);
+    write_rules(rules, &mut buffer[HEADER + 1..]);
     Ok(length)
 }
