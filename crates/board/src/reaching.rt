@@ -1,5 +1,5 @@
-// Which statements lead to one, as in leading.rt, for a large board: flags spread by the chains of uses, from a queue.
-ghost use Rattle.std.specs.Prelude.{◌≡◌, ◌+◌, ◌≤◌, true, false, not, length, count_by};
+// Which statements lead to one, as in leading.rt, for a large board: flags spread by the chains of uses.
+ghost use Rattle.std.specs.Prelude.{◌≡◌, ℕ, ◌+◌, ◌<◌, ◌≤◌, false, not, List, [], ◌∷◌, ◌++◌, length, take, MatchOption, count_by};
 ghost use Rattle.model.specs.Formed.{malformed};
 ghost use Rattle.model.specs.Least.{On};
 ghost use Rattle.board.specs.Flags.{Closed, Grown, Leading};
@@ -9,32 +9,69 @@ use crate::leading::is_flagged;
 use crate::numbered::put;
 use model::Rule;
 use scales::Scale;
+use std::marker::Model;
 
-// Flags the parents of `s`. Those that had no flag come to the queue's end; answers how many are in the queue then. The queue is an array
-// and two numbers, used in two functions: a type for it would be longer than both.
+// Statements that have a flag, and their parents not yet. The last to come is the first to go.
+#[derive(Drop)]
+struct Waiting {
+    numbers: [u16; 1024],
+    count: usize,
+}
+
+impl Model for Waiting {
+    ghost Value = { List ℕ };
+
+    ghost view = { λ w. take w.count w.numbers };
+
+    ghost invariant = { λ w. w.count ≤ 1024 };
+}
+
+impl Waiting {
+    fn none() -> Self
+        ensures { result ≡ [] }
+    {
+        Waiting {
+            numbers: [0; 1024],
+            count: 0,
+        }
+    }
+
+    fn add(&mut self, s: u16)
+        requires { length self.old < 1024 }
+        ensures { self.new ≡ self.old ++ s ∷ [] }
+    {
+        self.numbers[self.count] = s;
+        self.count += 1;
+    }
+
+    fn next(&mut self) -> Option<u16>
+        ensures { MatchOption result (self.old ≡ []) (λ s. self.old ≡ self.new ++ s ∷ []) }
+    {
+        self.count = self.count.checked_sub(1)?;
+        Some(self.numbers[self.count])
+    }
+}
+
+// Flags the parents of `s`. Those that had no flag come to those that wait.
 fn flag_parents<G: Scale>(
     uses: &Uses<'_, G>,
     s: u16,
     flags: &mut [bool; 1024],
-    queue: &mut [u16; 1024],
-    waiting: usize,
-) -> usize
+    waiting: &mut Waiting,
+)
     requires on { On 1024 s }
     requires formed { malformed 1024 uses.now.rules.now ≡ false }
-    requires fits { waiting + count_by not flags.old ≤ 1024 }
-    ensures grown { Grown uses.now.rules.now s flags.old queue.old waiting flags.new queue.new result }
+    requires fits { length waiting.old + count_by not flags.old ≤ 1024 }
+    ensures grown { Grown uses.now.rules.now s flags.old waiting.old (length waiting.old) flags.new waiting.new (length waiting.new) }
     ensures closed { Closed uses.now.rules.now flags.new s }
 {
-    let mut end = waiting;
     for rule in uses.of(s) {
         let p = rule.head;
         if !is_flagged(flags, p) {
             put(flags, p, true);
-            queue[end] = p;
-            end += 1;
+            waiting.add(p);
         }
     }
-    end
 }
 
 // Flags on exactly the statements that lead to `head`, by the chains of the uses.
@@ -44,15 +81,11 @@ fn leading_by_uses<G: Scale>(uses: &Uses<'_, G>, head: u16) -> [bool; 1024]
     ensures { Leading uses.now.rules.now head result }
 {
     let mut flags = [false; 1024];
-    let mut queue = [0; 1024];
+    let mut waiting = Waiting::none();
     put(&mut flags, head, true);
-    queue[0] = head;
-    let mut waiting = 1;
-    let mut done = 0;
-    while done < waiting {
-        let s = queue[done];
-        waiting = flag_parents(uses, s, &mut flags, &mut queue, waiting);
-        done += 1;
+    waiting.add(head);
+    while let Some(s) = waiting.next() {
+        flag_parents(uses, s, &mut flags, &mut waiting);
     }
     flags
 }

@@ -21,7 +21,7 @@ loop-rule-init g c =
     let all = ap (λ it. chosen it.key (drop it.at (keyed 4 it.rules.now))) c.into_iter-rule-iterator.ensures.into_iter_gives ∙ c.of-rule-items.ensures in
     let same = users_chosen s rs ∙ sym (ap heads all) in
     let P : List ℕ → Type 0 = All (λ p. On 1024 p × (son rs p s ≡ true)) in (
-      grown_none rs s c.args.flags.now c.args.queue.now c.args.waiting,
+      grown_none rs s c.args.flags.now c.args.waiting.now (length c.args.waiting.now),
       (λ p low h. inr (ap (λ l. holds l p) (sym same) ∙ h)),
       subst P same (users_on 1024 s c.requires.on.0 rs (c.args.uses.now.wide (omega arith)) c.requires.formed),
     )
@@ -38,8 +38,8 @@ put-requires g c =
     let P : List ℕ → Type 0 = All (λ p. On 1024 p × (son rs p c.args.s ≡ true)) in
     (subst P (ap heads c.in-Some.ensures.steps) c.loop-rule.invariant.2).0.0.0
 
-pub bounds-queue-end : goal.bounds-queue-end
-bounds-queue-end g c =
+pub add-requires : goal.add-requires
+add-requires g c =
     let rs = c.args.uses.now.rules.now in
     let P : List ℕ → Type 0 = All (λ p. On 1024 p × (son rs p c.args.s ≡ true)) in
     let on = (subst P (ap heads c.in-Some.ensures.steps) c.loop-rule.invariant.2).0.0 in
@@ -70,7 +70,7 @@ loop-rule-preserved-then-not-is_flagged g c =
     let new = sym c.if-not-is_flagged.ensures in
     let on : On (length fl) p = (all.0.0.0, omega (arith, all.0.0.1)) in
     let less = fewer fl (p - 1) (omega arith) new in (
-      rw c.put.ensures (grown_more rs s c.args.flags.now c.args.queue.now c.args.waiting fl c.loop-rule.queue c.loop-rule.end p c.loop-rule.invariant.0 on all.0.1 new (omega (arith, c.loop-rule.invariant.0.few, c.requires.fits))),
+      rw (c.put.ensures, c.add.ensures) (grown_more rs s c.args.flags.now c.args.waiting.now (length c.args.waiting.now) fl c.loop-rule.waiting p c.loop-rule.invariant.0 on all.0.1 new),
       goes fl c.put.new.items p (heads (chosen it.key (drop it.at (keyed 4 it.rules.now)))) _ (users (uses rs) s) turn
           (λ q pos f. ap (λ l. flagged l q) c.put.ensures ∙ flag_kept fl p q on pos f)
           (ap (λ l. flagged l p) c.put.ensures ∙ get_or-set_same fl (p - 1) true false (omega arith))

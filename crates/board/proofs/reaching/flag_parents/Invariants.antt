@@ -1,4 +1,4 @@
-use Rattle.std.proofs.Common.{◌≡◌, ℕ, ◌≤◌, true, ◌⊎◌, drop}
+use Rattle.std.proofs.Common.{◌≡◌, ℕ, ◌≤◌, true, ◌⊎◌, length, drop}
 use Rattle.std.specs.List.{AllByRecursion as All}
 use Rattle.model.specs.Rules.{holds, son}
 use Rattle.model.specs.Least.{On}
@@ -12,6 +12,6 @@ invariant-loop-rule g l =
     let it = l.rule-iterator in
     let rs = l.uses.rules.now in
     let rest = heads (chosen it.key (drop it.at (keyed 4 it.rules.now))) in
-    Grown rs l.s l.initial.flags l.initial.queue l.waiting l.flags l.queue l.end
+    Grown rs l.s l.initial.flags l.initial.waiting (length l.initial.waiting) l.flags l.waiting (length l.waiting)
     × ((p : ℕ) → 1 ≤ p → holds (users (uses rs) l.s) p ≡ true → (flagged l.flags p ≡ true) ⊎ (holds rest p ≡ true))
     × All (λ p. On 1024 p × (son rs p l.s ≡ true)) rest

@@ -1,41 +1,24 @@
-use Rattle.std.proofs.Common.{◌≡◌, ◌-◌, ℕ, true, false, length, replicate, ⊎_elim, arith, length-set}
-use lib.ListN.{length-replicate}
-use Rattle.board.proofs.Queued.{spreading_first, spreading_more, all_lead}
+use Rattle.std.proofs.Common.{ap, ⊎_elim, arith, length}
+use Rattle.board.proofs.Queued.{spreading_first, spreading_next, spreading_more, all_lead}
 use Rattle.board.proofs.reaching.leading_by_uses.Goals as goal
 
-pub loop-done-init : goal.loop-done-init
-loop-done-init g c =
-    let h = c.args.head in
-    let long : length (replicate {A = ℕ} 1024 0) ≡ 1024 = length-replicate {A = ℕ} 1024 0 in
-    let wide : length (replicate 1024 false) ≡ 1024 = length-replicate 1024 false in
-    let same = length-set (replicate 1024 false) (h - 1) true in
-    rw c.put.ensures (spreading_first c.args.uses.now.rules.now h 1024 (replicate {A = ℕ} 1024 0) c.requires.on (omega arith), omega arith)
+pub loop-s-init : goal.loop-s-init
+loop-s-init g c = rw (c.put.ensures, c.add.ensures, c.none-waiting.ensures) (spreading_first c.args.uses.now.rules.now c.args.head c.requires.on)
 
-pub flag_parents-waiting-requires : goal.flag_parents-waiting-requires
-flag_parents-waiting-requires g c =
-    let so = c.loop-done.invariant.0 in
-    let at = so.named c.loop-done.done c.loop-done-test.true in
-    let few = so.few in
-    record {
-      on = (at.0.0, omega arith);
-      formed = c.requires.formed;
-      fits = omega arith;
-    }
+pub flag_parents-requires-clause-on : goal.flag_parents-requires-clause-on
+flag_parents-requires-clause-on g c =
+    (spreading_next c.args.uses.now.rules.now c.args.head c.loop-s.flags c.loop-s.waiting c.next.new.self c.in-Some.s c.in-Some.ensures c.loop-s.invariant).0
 
-pub loop-done-preserved : goal.loop-done-preserved
-loop-done-preserved g c = (
-  spreading_more c.args.uses.now.rules.now c.args.head c.requires.on.0 c.loop-done.flags c.flag_parents-waiting.new.flags c.loop-done.queue c.flag_parents-waiting.new.queue c.loop-done.done c.loop-done.waiting c.flag_parents-waiting.result c.loop-done-test.true (omega arith) c.loop-done.invariant.0 c.flag_parents-waiting.ensures.grown c.flag_parents-waiting.ensures.closed,
-  omega arith,
-)
-
-pub loop-done-smaller : goal.loop-done-smaller
-loop-done-smaller g c = let few = c.loop-done.invariant.0.few in omega arith
+pub loop-s-preserved : goal.loop-s-preserved
+loop-s-preserved g c =
+    spreading_more c.args.uses.now.rules.now c.args.head c.requires.on.0 c.loop-s.flags c.flag_parents.new.flags c.loop-s.waiting c.next.new.self c.flag_parents.new.waiting c.in-Some.s c.in-Some.ensures (omega arith) c.loop-s.invariant c.flag_parents.ensures.grown c.flag_parents.ensures.closed
 
 pub returns : goal.returns
 returns g c =
-    let so = c.loop-done.invariant.0 in
-    let long = c.loop-done.invariant.1 in
+    let so = c.loop-s.invariant in
+    let long = so.long in
+    let none = ap length c.in_default.ensures in
     record {
       only = λ s on e. so.only s on.0 e;
-      every = λ s on l. all_lead c.loop-done.flags 1024 c.args.uses.now.rules.now c.requires.formed (λ t pos f. ⊎_elim (λ w. absurd (omega (arith, w.1, w.2))) (λ shut. shut) (so.open_yet t pos f)) (on.0, omega arith) l so.own;
+      every = λ s on l. all_lead c.loop-s.flags 1024 c.args.uses.now.rules.now c.requires.formed (λ t pos f. ⊎_elim (λ w. absurd (omega (arith, w.1, w.2, none))) (λ shut. shut) (so.open_yet t pos f)) (on.0, omega (arith, on.1, long)) l so.own;
     }

@@ -1,9 +1,9 @@
-use Rattle.std.proofs.Common.{◌≡◌, ◌-◌, length}
+use Rattle.std.proofs.Common.{◌+◌, not, length, count_by}
 use Rattle.board.proofs.Queued.{Spreading}
 use Rattle.board.proofs.reaching.leading_by_uses.Given as goal
 
-abbrev pub invariant-loop-done : goal.invariant-loop-done
-invariant-loop-done g l = Spreading l.uses.rules.now l.head l.flags l.queue l.done l.waiting × (length l.flags ≡ 1024)
+abbrev pub invariant-loop-s : goal.invariant-loop-s
+invariant-loop-s g l = Spreading l.uses.rules.now l.head l.flags l.waiting
 
-abbrev pub decreases-loop-done : goal.decreases-loop-done
-decreases-loop-done g l = 1024 - l.done
+abbrev pub decreases-loop-s : goal.decreases-loop-s
+decreases-loop-s g l = length l.waiting + count_by not l.flags
