@@ -1,8 +1,8 @@
 -- The list of all lines, or of all words, is the first and then those of what follows it. Assumes nothing.
 use Rattle.std.proofs.Common.{rules, ◌≤◌, one-add, add-one, ◌≡◌, ℕ, ◌+◌, Bool, true, false, cond, not, List, [], ◌∷◌, length, take, drop, filter, Some, None, Option, refl, sym, ap, ◌∙◌}
-use Rattle.std.specs.Prelude.{◌==◌}
+use Rattle.std.specs.Prelude.{MatchOption, ◌==◌}
 use Rattle.std.specs.List.{prefix_len, onto_first, slice_split}
-use Rattle.plaintext.specs.Bytes.{in_line, next_line, lines, blank, in_word, from_word, first_word, next_word, words}
+use Rattle.plaintext.specs.Bytes.{LinesAre, in_line, next_line, lines, blank, in_word, from_word, first_word, next_word, words}
 
 abbrev first_of : Option (List ℕ × List ℕ) → List ℕ
 first_of None = []
@@ -92,3 +92,10 @@ fits_from false b bs h = search rules
 pub lines_fit : (text : List ℕ) → length (lines text) ≤ length text
 lines_fit [] = search rules
 lines_fit (b ∷ bs) = let h = fits_from (in_line b) b bs (lines_fit bs) in search rules
+
+line_by_line : (text : List ℕ) (o : Option (List ℕ × List ℕ)) → next_line text ≡ o → MatchOption o (lines text ≡ []) (λ p. lines text ≡ p.0 ∷ lines p.1)
+line_by_line text None is = no_line text is
+line_by_line text (Some p) is = line_then text p.0 p.1 is
+
+pub one_by_one : LinesAre
+one_by_one text = line_by_line text (next_line text) refl

@@ -3,6 +3,7 @@
 --     in_line             a byte of a line, which a line feed ends
 --     next_line text      the first line and the text after its line feed; none at the end of the text
 --     lines text          all lines: a line feed ends one, and any other byte belongs to the line that it stands in
+--     LinesAre            the lines of a text are what next_line gives again and again
 --     from_word line      the line from its first word on
 --     first_word line     the first word, empty where there is none
 --     after_word line     what follows it
@@ -31,6 +32,9 @@ next_line text = cond (length text == 0) None (Some (take (prefix_len in_line te
 abbrev pub lines : List ℕ → List (List ℕ)
 lines [] = []
 lines (b ∷ bs) = cond (in_line b) (onto_first b (lines bs)) ([] ∷ lines bs)
+
+abbrev pub LinesAre : Type 0
+LinesAre = (text : List ℕ) → MatchOption (next_line text) (lines text ≡ []) (λ p. lines text ≡ p.0 ∷ lines p.1)
 
 abbrev pub from_word : List ℕ → List ℕ
 from_word line = drop (prefix_len blank line) line

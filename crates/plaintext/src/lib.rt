@@ -7,6 +7,7 @@ mod classes;
 mod cuts;
 mod decimals;
 mod iters;
+pub mod theorems;
 
 pub use appended::push_bytes;
 pub use bars::bar;

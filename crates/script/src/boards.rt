@@ -12,8 +12,8 @@ const RAMP: &[u8] = b"ramp";
 
 // Lengths past a limit are judged alike, so one more than the limit is enough.
 pub fn size_of(statements: &[u8], places: &[u8]) -> Result<Size, ScriptError> {
-    let statements = (number_field(statements)? as usize).min(1025);
-    let places = (number_field(places)? as usize).min(4097);
+    let statements = usize::from(number_field(statements)?).min(1025);
+    let places = usize::from(number_field(places)?).min(4097);
     Ok(Size { statements, places })
 }
 
@@ -71,10 +71,10 @@ pub fn listed_and_ramp(
 
 // The survey of any other board: only percent has a ramp.
 pub fn listed_alone<G: Written>(heap: Global, line: &[u8]) -> Result<Listed<G>, ScriptError> {
-    match after_ramp(line) {
-        None => listed(heap, line),
-        Some(_) => Err(ScriptError::Malformed(Expected::NoRamp)),
+    if after_ramp(line).is_some() {
+        return Err(ScriptError::Malformed(Expected::NoRamp));
     }
+    listed(heap, line)
 }
 
 // Clears the board, and says so.

@@ -23,7 +23,7 @@ fn push_rules<G: Written>(text: &mut String, rules: &[Rule<G>]) -> Result<(), Al
     for (mark, rule) in (1usize..).zip(rules.iter()) {
         if rule.head != 0 {
             let head = rule.head;
-            let form = rule.form.letter() as char;
+            let form = char::from(rule.form.letter());
             let weight = rule.weight.code();
             let [a, b, c, d] = rule.bodies;
             writeln!(text, "p {mark} {head} {form} {weight} {a} {b} {c} {d}")?;
