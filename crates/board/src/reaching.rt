@@ -45,7 +45,7 @@ impl Waiting {
     }
 
     fn next(&mut self) -> Option<u16>
-        ensures { MatchOption result (self.old ≡ []) (λ s. self.old ≡ self.new ++ s ∷ []) }
+        ensures { MatchOption result ((self.old ≡ []) × (self.new ≡ [])) (λ s. self.old ≡ self.new ++ s ∷ []) }
     {
         self.count = self.count.checked_sub(1)?;
         Some(self.numbers[self.count])

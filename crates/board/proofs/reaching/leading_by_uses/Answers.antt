@@ -17,7 +17,7 @@ pub returns : goal.returns
 returns g c =
     let so = c.loop-s.invariant in
     let long = so.long in
-    let none = ap length c.in_default.ensures in
+    let none = ap length c.in_default.ensures.0 in
     record {
       only = λ s on e. so.only s on.0 e;
       every = λ s on l. all_lead c.loop-s.flags 1024 c.args.uses.now.rules.now c.requires.formed (λ t pos f. ⊎_elim (λ w. absurd (omega (arith, w.1, w.2, none))) (λ shut. shut) (so.open_yet t pos f)) (on.0, omega (arith, on.1, long)) l so.own;
