@@ -1,2 +1,3 @@
 pub mod Measured
 pub mod Standings
+pub mod Spoken

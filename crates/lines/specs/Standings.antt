@@ -3,7 +3,8 @@
 --     same s t            the two standings are one
 --     stands t s r        the reading r stands so on the ramp t
 --     count t s           how many readings of the ramp t stand so
-use Rattle.std.specs.Prelude.{ℕ, Bool, true, false, cond, vec_items, count_by, ◌==◌}
+--     CountsAddUp         each reading stands in one way: the four counts are all readings together
+use Rattle.std.specs.Prelude.{◌≡◌, ℕ, ◌+◌, Bool, true, false, cond, length, vec_items, count_by, ◌==◌}
 use Rattle.scales.specs.Percents.{points}
 use Rattle.surveys.specs.Ramps.{unmeasured, graded}
 use Rattle.surveys.specs.declared.ramp.Ramp.{Ramp}
@@ -37,3 +38,6 @@ stands t s r = same (standing t.near t.far r) s
 
 abbrev pub count : Ramp → Standing → ℕ
 count t s = count_by (stands t s) (vec_items t.readings)
+
+abbrev pub CountsAddUp : Type 0
+CountsAddUp = (t : Ramp) → count t Unmeasured + count t Full + count t Zero + count t Between ≡ length (vec_items t.readings)

@@ -4,6 +4,7 @@
 mod measured;
 mod report;
 mod standings;
+pub mod theorems;
 
 pub use measured::{Expected, Fault, ReadError, read_lines};
 pub use report::{row, summary};

@@ -4,7 +4,7 @@ ghost use Rattle.plaintext.specs.Bytes.{lines};
 ghost use Rattle.lines.specs.declared.measured.ReadError.TheVariants.{NoMemory};
 ghost use Rattle.lines.specs.Measured.{Reads, due as due_after, ends_after as ends_of, fits as fits_after, kind, reading_of, readings_after, shoulders_of};
 
-use plaintext::{is_blank, lines, next_word, same_word, small_number};
+use plaintext::{is_blank, lines, next_word, small_number};
 use std::alloc::{AllocFailed, Global};
 use std::error::Error;
 use std::fmt;
@@ -27,6 +27,11 @@ pub enum Expected {
 }
 
 impl fmt::Display for Expected {
+    ghost use Rattle.std.specs.Prelude.{Some};
+    ghost use Rattle.lines.specs.Spoken.{expected_text};
+
+    ghost output = { λ x. Some (expected_text x) };
+
     fn fmt<W: fmt::Write>(&self, f: &mut fmt::Formatter<W>) -> fmt::Result {
         f.write_str(match self {
             Expected::Shoulders => "`ramp NEAR FAR`, two numbers up to 65535",
@@ -43,6 +48,11 @@ pub struct Fault {
 }
 
 impl fmt::Display for Fault {
+    ghost use Rattle.std.specs.Prelude.{Some};
+    ghost use Rattle.lines.specs.Spoken.{fault_text};
+
+    ghost output = { λ x. Some (fault_text x) };
+
     fn fmt<W: fmt::Write>(&self, f: &mut fmt::Formatter<W>) -> fmt::Result {
         let line = self.line;
         let due = self.expected;
@@ -57,6 +67,11 @@ pub enum ReadError {
 }
 
 impl fmt::Display for ReadError {
+    ghost use Rattle.std.specs.Prelude.{Some};
+    ghost use Rattle.lines.specs.Spoken.{error_text};
+
+    ghost output = { λ x. Some (error_text x) };
+
     fn fmt<W: fmt::Write>(&self, f: &mut fmt::Formatter<W>) -> fmt::Result {
         match self {
             ReadError::Bad(fault) => write!(f, "{fault}"),
@@ -99,12 +114,10 @@ fn classify(line: &[u8]) -> Line
     ensures { result ≡ kind line.now }
 {
     let (word, rest) = next_word(line);
-    if word.is_empty() || word[0] == b'#' {
-        Line::Skipped
-    } else if same_word(word, b"ramp") {
-        shoulders(rest)
-    } else {
-        reading(word, rest)
+    match word {
+        [] | [b'#', ..] => Line::Skipped,
+        b"ramp" => shoulders(rest),
+        _ => reading(word, rest),
     }
 }
 
@@ -112,6 +125,7 @@ fn classify(line: &[u8]) -> Line
 fn due(ends: Option<(u16, u16)>) -> Expected
     ensures { result ≡ due_after ends }
 {
+    // a match that names both cases: map_or would hide that the pair is not used
     match ends {
         None => Expected::Shoulders,
         Some(_) => Expected::Reading,
@@ -122,12 +136,10 @@ fn due(ends: Option<(u16, u16)>) -> Expected
 fn fits(ends: Option<(u16, u16)>, line: Line) -> bool
     ensures { result ≡ fits_after ends line }
 {
-    match (ends, line) {
-        (_, Line::Skipped) => true,
-        (None, Line::Shoulders(_, _)) => true,
-        (Some(_), Line::Reading(_)) => true,
-        _ => false,
-    }
+    matches!(
+        (ends, line),
+        (_, Line::Skipped) | (None, Line::Shoulders(_, _)) | (Some(_), Line::Reading(_))
+    )
 }
 
 fn ends_after(ends: Option<(u16, u16)>, line: Line) -> Option<(u16, u16)>
@@ -171,15 +183,15 @@ pub fn read_lines(heap: Global, text: &[u8]) -> Result<Ramp, ReadError>
         note(&mut readings, line)?;
         ends = ends_after(ends, line);
     }
-    match ends {
-        Some((near, far)) => Ok(Ramp {
-            readings,
-            near,
-            far,
-        }),
-        None => Err(ReadError::Bad(Fault {
+    let (near, far) = ends.ok_or_else(|| {
+        ReadError::Bad(Fault {
             line: line_count(text) + 1,
             expected: Expected::Shoulders,
-        })),
-    }
+        })
+    })?;
+    Ok(Ramp {
+        readings,
+        near,
+        far,
+    })
 }

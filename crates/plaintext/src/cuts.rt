@@ -61,7 +61,7 @@ pub fn is_blank(line: &[u8]) -> bool
     blank_len(line) == line.len()
 }
 
-// Whether two words are the same.
+// Whether two words are the same: `==` under a name, since its clause says by `bytes_eq` what it tests, as calls are specified.
 pub fn same_word(word: &[u8], other: &[u8]) -> bool
     ensures { result ≡ bytes_eq word.now other.now }
 {

@@ -12,6 +12,11 @@ pub enum ScriptError {
 }
 
 impl fmt::Display for ScriptError {
+    ghost use Rattle.std.specs.Prelude.{Some};
+    ghost use Rattle.script.specs.Spoken.{error_text};
+
+    ghost output = { λ x. Some (error_text x) };
+
     fn fmt<W: fmt::Write>(&self, f: &mut fmt::Formatter<W>) -> fmt::Result {
         match self {
             ScriptError::Malformed(due) => write!(f, "expected {due}"),

@@ -24,6 +24,11 @@ pub enum Expected {
 }
 
 impl fmt::Display for Expected {
+    ghost use Rattle.std.specs.Prelude.{Some};
+    ghost use Rattle.spelling.specs.Spoken.{expected_text};
+
+    ghost output = { λ x. Some (expected_text x) };
+
     fn fmt<W: fmt::Write>(&self, f: &mut fmt::Formatter<W>) -> fmt::Result {
         f.write_str(match self {
             Expected::LineEnd => "the end of the line",

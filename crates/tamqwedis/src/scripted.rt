@@ -31,6 +31,7 @@ fn on_line(heap: Global, number: usize, failure: Failure) -> Result<Failure, All
 pub(crate) fn run_script(rt: &HostRuntime, text: &[u8]) -> Result<(), Failure> {
     let mut script = Script::NoBoard;
     for (number, line) in (1usize..).zip(lines(text)) {
+        // a match: to tell the failure takes memory, which may be wanting, so that no map_err serves
         match run_one(rt, &mut script, line) {
             Ok(answer) => rt.print(answer)?,
             Err(failure) => return Err(on_line(rt.alloc(), number, failure)?),

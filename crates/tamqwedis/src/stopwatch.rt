@@ -33,6 +33,6 @@ impl Stopwatch {
 
     // Whole nanoseconds for each of so many turns.
     pub(crate) fn nanos(&self, turns: NonZeroU16) -> u128 {
-        self.total.as_nanos() / turns.get() as u128
+        self.total.as_nanos() / u128::from(turns.get())
     }
 }

@@ -35,11 +35,11 @@ pub(crate) fn timed<G: Written>(
 
 // The number in five columns of the first line, from 1 up; where it is none, loading the text says so.
 fn count_in(columns: Option<&[u8]>) -> usize {
-    columns
+    let count = columns
         .and_then(|columns| words(columns).next())
         .and_then(|word| small_number(word))
-        .unwrap_or(1)
-        .max(1) as usize
+        .unwrap_or(1);
+    usize::from(count.max(1))
 }
 
 // The board that the text spells, on tables as long as its first line says.
@@ -57,10 +57,9 @@ fn loaded<G: Written>(heap: Global, text: &[u8]) -> Result<Desk<G, Listed<G>>, F
 }
 
 fn fill<G: Written>(desk: &mut Desk<G, Listed<G>>, text: &[u8]) -> Result<(), Failure> {
-    match load(text, &mut desk.statements, &mut desk.rules) {
-        Ok(_) => Ok(()),
-        Err(fault) => Err(Failure::Load(fault.report())),
-    }
+    let answer = load(text, &mut desk.statements, &mut desk.rules);
+    answer.map_err(|fault| Failure::Load(fault.report()))?;
+    Ok(())
 }
 
 fn want_all<G: Written>(desk: &mut Desk<G, Listed<G>>) -> Result<(), Failure> {
@@ -71,7 +70,8 @@ fn want_all<G: Written>(desk: &mut Desk<G, Listed<G>>) -> Result<(), Failure> {
     Ok(())
 }
 
-// Finishes the cleared board with all statements wanted.
+// Finishes the cleared board with all statements wanted. It is no twin of the withdraws: each clones what its call changes, and
+// asks for another answer, so that one function of both would take four closures.
 fn time_finish<G: Written>(
     rt: &HostRuntime,
     desk: &mut Desk<G, Listed<G>>,
