@@ -22,7 +22,7 @@ module _ {G : Type 0} (fl : List Bool) (rs : List (Rule G)) (i : ℕ) (so_far : 
 
 -- bodies
 touched : (fl : List Bool) (bs : List ℕ) → some_flagged fl bs ≡ true → (t : ℕ) × (holds bs t ≡ true) × (flagged fl t ≡ true)
-touched fl [] e = let z : ◌≡◌ {A = ℕ} 0 1 = cc in absurd (omega arith)
+touched fl [] e = cc
 touched fl (b ∷ bs) e =
     ⊎_elim
     (λ f. (b, or_left (eqb b b) (holds bs b) (eq-eqb b b refl), f))
@@ -30,7 +30,7 @@ touched fl (b ∷ bs) e =
     (or_cases (flagged fl b) (some_flagged fl bs) e)
 
 touching : (fl : List Bool) (bs : List ℕ) (t : ℕ) → holds bs t ≡ true → flagged fl t ≡ true → some_flagged fl bs ≡ true
-touching fl [] t e f = let z : ◌≡◌ {A = ℕ} 0 1 = cc in absurd (omega arith)
+touching fl [] t e f = cc
 touching fl (b ∷ bs) t e f =
     ⊎_elim
     (λ q. or_left (flagged fl b) (some_flagged fl bs) (ap (flagged fl) (eqb-true b t q) ∙ f))
@@ -45,7 +45,7 @@ some_head : (h p : ℕ) → Some h ≡ Some p → h ≡ p
 some_head h p e = cc
 
 none_both : (b : Bool) (h : ℕ) (o : Option ℕ) → cond b (Some h) o ≡ None → (b ≡ false) × (o ≡ None)
-none_both true h o e = let z : ◌≡◌ {A = ℕ} 0 1 = cc in absurd (omega arith)
+none_both true h o e = cc
 none_both false h o e = (refl, e)
 
 module _ {G : Type 0} where
@@ -99,7 +99,7 @@ module _ {G : Type 0} where
   spread_by fl n p r rs sound rest false q e = spread_later fl n p r rs (rest e)
 
   pub spread_some : (fl : List Bool) (n p : ℕ) (rs : List (Rule G)) → malformed n rs ≡ false → spreading fl rs ≡ Some p → Spread fl rs n p
-  spread_some fl n p [] a e = let z : ◌≡◌ {A = ℕ} 0 1 = cc in absurd (omega arith)
+  spread_some fl n p [] a e = cc
   spread_some fl n p (r ∷ rs) a e =
       let parts = or_parts (malformed_place n r) (malformed n rs) a in
       spread_by fl n p r rs parts.0 (spread_some fl n p rs parts.1) (spreads fl r) refl e
@@ -114,7 +114,7 @@ module _ {G : Type 0} where
       (and_cases (not (eqb r.head 0)) (not (flagged fl r.head) && some_flagged fl (present r.bodies)) e)
 
   pub spread_none : (fl : List Bool) (rs : List (Rule G)) → spreading fl rs ≡ None → (s t : ℕ) → 1 ≤ s → son rs s t ≡ true → flagged fl t ≡ true → flagged fl s ≡ true
-  spread_none fl [] e s t pos h f = let z : ◌≡◌ {A = ℕ} 0 1 = cc in absurd (omega arith)
+  spread_none fl [] e s t pos h f = cc
   spread_none fl (r ∷ rs) e s t pos h f =
       let both = none_both (spreads fl r) r.head (spreading fl rs) e in
       ⊎_elim

@@ -1,5 +1,5 @@
 -- A clear has one outcome, and is refused for the lengths of the tables alone.
-use Rattle.std.proofs.Common.{◌≡◌, ℕ, Bool, true, false, ◌||◌, length, Some, None, Option, sym, refl, ap, ◌∙◌, arith}
+use Rattle.std.proofs.Common.{◌≡◌, Bool, true, false, ◌||◌, length, Some, None, Option, sym, refl, ap, ◌∙◌}
 use Rattle.std.proofs.lemmas.Bool.{or_from, cond-true, cond-false}
 use Rattle.scales.specs.Meaning.{Meaning}
 use Rattle.model.proofs.Cases.{by_test}
@@ -28,13 +28,13 @@ module _ {G : Type 0} where
   limits_unmet t on = or_from (outside 1024 (count t)) (outside 4096 (length t.rules)) (on_inside 1024 (count t) on.0) (on_inside 4096 (length t.rules) on.1)
 
   never : (t : Tables G) (r : Refusal) → first (length_checks t) ≡ Some r → beyond_limits t ≡ false → ⊥
-  never t r e q = let o = unmet t q in let z : ◌≡◌ {A = ℕ} 0 1 = cc in omega arith
+  never t r e q = let o = unmet t q in cc
 
 module _ {G : Type 0} (m : Meaning G) where
   one_clear : {t u v : Tables G} {a b : Option Refusal} → Clears m t a u → Clears m t b v → (a ≡ b) × (u ≡ v)
   one_clear (kept e) (kept f) = (sym e ∙ f, refl)
-  one_clear (kept e) (clears f) = let z : ◌≡◌ {A = ℕ} 0 1 = cc in absurd (omega arith)
-  one_clear (clears e) (kept f) = let z : ◌≡◌ {A = ℕ} 0 1 = cc in absurd (omega arith)
+  one_clear (kept e) (clears f) = cc
+  one_clear (clears e) (kept f) = cc
   one_clear (clears e) (clears f) = (refl, refl)
 
   some_clear : (t : Tables G) → (a : Option Refusal) × (u : Tables G) × Clears m t a u

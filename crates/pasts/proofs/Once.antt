@@ -79,6 +79,6 @@ module _ {G : Type 0} (m : Meaning G) where
 
     pub one_outcome : (t : Tables G) → OneOutcome m degree t
     one_outcome t c u v a b (refused {r = r} e) (refused {r = s} f) = let same : r ≡ s = cc in (ap Refused same, refl)
-    one_outcome t c u v a b (refused e) (done f d) = let z : ◌≡◌ {A = ℕ} 0 1 = cc in absurd (omega arith)
-    one_outcome t c u v a b (done e d) (refused f) = let z : ◌≡◌ {A = ℕ} 0 1 = cc in absurd (omega arith)
+    one_outcome t c u v a b (refused e) (done f d) = cc
+    one_outcome t c u v a b (done e d) (refused f) = cc
     one_outcome t c u v a b (done e d) (done f d') = one_does e d d'

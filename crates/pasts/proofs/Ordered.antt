@@ -26,7 +26,7 @@ FirstMet r [] = ⊥
 FirstMet r (c ∷ cs) = ((c.refusal ≡ r) × (c.met ≡ true)) ⊎ ((c.met ≡ false) × FirstMet r cs)
 
 first_met : (cs : List Check) (r : Refusal) → first cs ≡ Some r → FirstMet r cs
-first_met [] r e = let z : ◌≡◌ {A = ℕ} 0 1 = cc in absurd (omega arith)
+first_met [] r e = cc
 first_met (c ∷ cs) r e =
     let here : c.met ≡ true → FirstMet r (c ∷ cs) = λ q. let s : Some c.refusal ≡ Some r = sym (cond-true c.met (Some c.refusal) (first cs) q) ∙ e in inl (cc, q) in
     by_test c.met here (λ q. inr (q, first_met cs r (sym (cond-false c.met (Some c.refusal) (first cs) q) ∙ e)))

@@ -1,5 +1,5 @@
 -- The outcome of a call from its first check that is met, or from what it does.
-use Rattle.std.proofs.Common.{◌≡◌, ℕ, Bool, true, false, cond, not, List, [], ◌∷◌, ◌++◌, Some, None, Option, sym, refl, ap, ◌∙◌, arith}
+use Rattle.std.proofs.Common.{◌≡◌, ℕ, Bool, true, false, cond, not, List, [], ◌∷◌, ◌++◌, Some, None, Option, sym, refl, ap, ◌∙◌}
 use Rattle.scales.specs.Meaning.{Meaning}
 use Rattle.pasts.specs.Refusals.{Check, first}
 use Rattle.pasts.specs.Tables.{Tables, table_checks, call_checks, some_active}
@@ -17,11 +17,11 @@ refused_one true q r o p f e = e
 refused_one false q r o p f e = f e
 
 passed_one : (b : Bool) (q : Refusal) (o p d : Option Refusal) → (o ≡ None → p ≡ d) → cond b (Some q) o ≡ None → cond b (Some q) p ≡ d
-passed_one true q o p d f e = let z : ◌≡◌ {A = ℕ} 0 1 = cc in absurd (omega arith)
+passed_one true q o p d f e = cc
 passed_one false q o p d f e = f e
 
 pub first_refused : (cs ds : List Check) (r : Refusal) → first cs ≡ Some r → first (cs ++ ds) ≡ Some r
-first_refused [] ds r e = let z : ◌≡◌ {A = ℕ} 0 1 = cc in absurd (omega arith)
+first_refused [] ds r e = cc
 first_refused (c ∷ cs) ds r e = refused_one c.met c.refusal r (first cs) (first (cs ++ ds)) (first_refused cs ds r) e
 
 pub first_passed : (cs ds : List Check) → first cs ≡ None → first (cs ++ ds) ≡ first ds

@@ -1,12 +1,12 @@
 -- Checks one after another: the first that is met, and what a list says of which none is.
-use Rattle.std.proofs.Common.{◌≡◌, ℕ, Bool, true, false, cond, List, [], ◌∷◌, ◌++◌, Ok, Err, Result, sym, refl, ap, ◌∙◌, subst, arith}
+use Rattle.std.proofs.Common.{◌≡◌, Bool, true, false, cond, List, [], ◌∷◌, ◌++◌, Ok, Err, Result, sym, refl, ap, ◌∙◌, subst}
 use Rattle.model.proofs.Cases.{by_test}
 use Rattle.std.proofs.lemmas.Bool.{cond-true, cond-false}
 use Rattle.text.specs.Faults.{Check, Unmet, judged, report, FirstMet, here, later}
 use Rattle.text.specs.declared.faults.Fault.{Fault}
 
 skip : {X : Type 0} (b : Bool) (f : Fault) (r : Result X Fault) (z : X) → Ok z ≡ cond b (Err f) r → (b ≡ false) × (Ok z ≡ r)
-skip true f r z e = let z : ◌≡◌ {A = ℕ} 0 1 = cc in absurd (omega arith)
+skip true f r z e = cc
 skip false f r z e = (refl, e)
 
 pub passed : {X : Type 0} (cs : List Check) (x z : X) → Ok z ≡ judged cs x → Unmet cs × (z ≡ x)
@@ -34,7 +34,7 @@ fails false f g r s e k = k e
 
 -- a check that is met, met again among more
 pub stops : {X Y : Type 0} (cs ds : List Check) (x : X) (y : Y) (f : Fault) → Err f ≡ judged cs x → Err f ≡ judged (cs ++ ds) y
-stops [] ds x y f e = let z : ◌≡◌ {A = ℕ} 0 1 = cc in absurd (omega arith)
+stops [] ds x y f e = cc
 stops (c ∷ cs) ds x y f e = fails c.met f c.fault (judged cs x) (judged (cs ++ ds) y) e (stops cs ds x y f)
 
 pub unmet_both : (cs ds : List Check) → Unmet cs → Unmet ds → Unmet (cs ++ ds)
@@ -51,7 +51,7 @@ after cs ds x z y e q = q ∙ sym (goes cs ds x z y e)
 
 -- the fault that is answered is that of the first check that is met
 pub first_met : {X : Type 0} (cs : List Check) (x : X) (f : Fault) → Err f ≡ judged cs x → FirstMet cs (report f)
-first_met [] x f e = let z : ◌≡◌ {A = ℕ} 0 1 = cc in absurd (omega arith)
+first_met [] x f e = cc
 first_met (c ∷ cs) x f e =
     by_test c.met
     (λ q.

@@ -1,5 +1,5 @@
 -- What a load does, from its checks.
-use Rattle.std.proofs.Common.{◌≡◌, ℕ, Bool, true, false, cond, ◌||◌, List, [], ◌∷◌, ◌++◌, length, drop, replicate, Some, None, Ok, Err, Option, Result, sym, refl, ap, ◌∙◌, subst, arith}
+use Rattle.std.proofs.Common.{◌≡◌, ℕ, Bool, true, false, cond, ◌||◌, List, [], ◌∷◌, ◌++◌, length, drop, replicate, Some, None, Ok, Err, Option, Result, sym, refl, ap, ◌∙◌, subst}
 use Rattle.std.proofs.lemmas.List.{append-nil}
 use Rattle.std.proofs.lemmas.Bool.{cond-false}
 use Rattle.scales.specs.Meaning.{Meaning}
@@ -24,7 +24,7 @@ use Rattle.text.proofs.TextsBack.{text_good, text_back, count_back}
 use Rattle.text.proofs.TextsSpelled.{text_fits, text_decoded, text_spelled, rows_length}
 
 ok_err : {X E : Type 0} (x : X) (e : E) → ◌≡◌ {A = Result X E} (Ok x) (Err e) → ⊥
-ok_err x e p = let z : ◌≡◌ {A = ℕ} 0 1 = cc in omega arith
+ok_err x e p = cc
 
 -- what a load ensures
 pub record Load {G : Type 0} (m : Meaning G) (k : Coding G) (text : List ℕ) (t : Tables G) (r : Result ℕ Fault) (u : Tables G) : Type 0 where
@@ -82,7 +82,7 @@ module _ {G : Type 0} {m : Meaning G} {k : Coding G} (codes : Codes m k 65535) (
 
   by_length : (b : Bool) (q : Refusal) (r : Result ℕ Fault) → Some q ≡ cond b (Some TableLength) None → Err (at_no_place q) ≡ cond b (Err (at_no_place TableLength)) r
   by_length true q r e = let same : q ≡ TableLength = cc in ap (λ x. Err (at_no_place x)) same
-  by_length false q r e = let z : ◌≡◌ {A = ℕ} 0 1 = cc in absurd (omega arith)
+  by_length false q r e = cc
 
   pub in_lengths : (q : Refusal) → Some q ≡ first (length_checks t) → Load m k text t (Err (at_no_place q)) t
   in_lengths q e = refusing (at_no_place q) (by_length (outside 1024 n || outside 4096 p) q _ e)
@@ -135,9 +135,9 @@ module _ {G : Type 0} {m : Meaning G} {k : Coding G} (codes : Codes m k 65535) (
 
 -- a clear of tables within their limits
 pub never_refused : {G : Type 0} {m : Meaning G} {t u : Tables G} {o : Option Refusal} → Clears m t o u → (q : Refusal) → o ≡ Some q → None ≡ first (length_checks t) → ⊥
-never_refused (kept h) q e n = let z : ◌≡◌ {A = ℕ} 0 1 = cc in omega arith
-never_refused (clears h) q e n = let z : ◌≡◌ {A = ℕ} 0 1 = cc in omega arith
+never_refused (kept h) q e n = cc
+never_refused (clears h) q e n = cc
 
 pub is_cleared : {G : Type 0} {m : Meaning G} {t u : Tables G} {o : Option Refusal} → Clears m t o u → o ≡ None → u ≡ cleared m (count t) (length t.rules)
-is_cleared (kept h) e = let z : ◌≡◌ {A = ℕ} 0 1 = cc in absurd (omega arith)
+is_cleared (kept h) e = cc
 is_cleared (clears h) e = refl

@@ -42,7 +42,7 @@ five a b c d e n pa pb pc pd pe z h = columns a b c d e n (omega arith) (grind (
 
 from_last : (e n : ℕ) → rest None (e ∷ []) ≡ Some n → Is 32 32 32 32 e n
 from_last e n p = elim (first e [] n p) [
-  | inl q ↦ let r : rest None [] ≡ Some n = q.1 in let z : ◌≡◌ {A = ℕ} 0 1 = cc in absurd (omega arith)
+  | inl q ↦ let r : rest None [] ≡ Some n = q.1 in cc
   | inr q ↦ last e n (q.0, q.1) (number_is (e - 48) n q.2)
 ]
 

@@ -111,7 +111,7 @@ module _ {G : Type 0} {m : Meaning G} {c : Coding G} (codes : Codes m c 65535) w
 
   none_refused : (o : Option Refusal) (j k : ℕ) → Ok k ≡ or_length o j → (o ≡ None) × (k ≡ j)
   none_refused None j k e = (refl, cc)
-  none_refused (Some q) j k e = let z : ◌≡◌ {A = ℕ} 0 1 = cc in absurd (omega arith)
+  none_refused (Some q) j k e = cc
 
   pub load_after_write : LoadAfterWrite m c
   load_after_write t s u buffer out k r four w counts places l =

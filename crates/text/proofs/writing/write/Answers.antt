@@ -29,6 +29,6 @@ returns g c =
     pour buffer c.write_header.new.out (header_front n (length xs) ++ (10 ∷ [])) c.write_rules.new.out (flat_map (row_bytes k) xs) 12 (38 * length xs) c.write_header.auto.out (omega (arith, c.if-buffer-length.false)) head c.write_rules.ensures in
     record {
       answer = ap (λ (j : ℕ). Ok (12 + 38 * j)) same ∙ sym (ap (λ o. or_length o (12 + 38 * length xs)) none);
-      refused = λ q e. let z : ◌≡◌ {A = ℕ} 0 1 = cc e in absurd (omega arith);
+      refused = λ q e. cc;
       written = λ j e. let l : 12 + 38 * c.count_rules-held.result ≡ j = cc e in out ∙ ap (λ (i : ℕ). (header_front n (length xs) ++ (10 ∷ []) ++ flat_map (row_bytes k) xs) ++ drop i buffer) (ap (λ (i : ℕ). 12 + 38 * i) (sym same) ∙ l);
     }
