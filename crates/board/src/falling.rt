@@ -41,6 +41,7 @@ fn leading<G: Scale>(rules: &[Rule<G>], head: u16) -> [bool; 1024]
     requires formed { malformed 1024 rules.now ≡ false }
     ensures { Leading rules.now head result }
 {
+    // A checked table is never longer than MOST_PLACES: the second test spares callers a clause.
     if rules.len() <= FEW || MOST_PLACES < rules.len() {
         leading_by_search(rules, head)
     } else {

@@ -24,7 +24,8 @@ fn touches(flags: &[bool], bodies: [u16; 4]) -> bool
     bodies.iter().any(|b| *b != 0 && is_flagged(flags, *b))
 }
 
-// The head of a rule that has a flagged body, while the head has no flag yet.
+// The head of a rule that has a flagged body, while the head has no flag yet. A loop: by `find` and `map` a goal was left that takes a
+// longer proof than the loop's.
 fn next_parent<G: Scale>(rules: &[Rule<G>], flags: &[bool]) -> Option<u16>
     ensures { result ≡ spreading flags.now rules.now }
 {

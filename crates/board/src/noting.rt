@@ -15,6 +15,7 @@ use pasts::{Event, Statement};
 use scales::Scale;
 
 // No statement is active in the words before `from`, so that the search for the lowest begins there, and not at the first word each time.
+// Each method says that the table is still the lent one (`same_reference`): a ghost field speaks of one moment, and cannot.
 #[derive(Drop)]
 pub(crate) struct Agenda<'a, G: Scale> {
     pub(crate) statements: &'a mut [Statement<G>],

@@ -52,6 +52,7 @@ pub(crate) fn advance<V: Survey>(
 {
     let new = worth(survey, statements, rules, s);
     let old = grade_of(statements, s);
+    // `&`: both tests are short, and no branch lies between them
     let rose = old.at_or_below(new) & !new.at_or_below(old);
     let grade = if rose { new } else { old };
     take(statements, s, grade);
