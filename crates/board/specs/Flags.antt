@@ -4,7 +4,7 @@
 --     spreads fl r                the rule r has a flagged body, and its head has no flag
 --     spreading fl rules          the head of the first such rule
 --     Closed rules fl t           all that have t for a son have a flag
---     Waits queue d n t           t stands in the queue, at the place d or after it and before n
+--     Waits queue d n t           t is among those that wait, at the place d or after it and before n
 --     Grown rules s fl queue n more longer k      from n to k numbers in the queue, only parents of s got a flag, and each that did came
 --                                 to the queue's end
 --     Leading rules h fl          exactly the statements that lead to h have a flag

@@ -2,7 +2,9 @@
 // Every public call is a generic function over the two tables, which it is lent as slices of records: that is the interface. So the
 // tables go side by side within the crate too, and a function says itself what it needs of them once they are checked: a call changes
 // both of them, the statements alone or neither, so in place of one struct that holds them there would be three.
-// `as` changes a number's type only where it is proved to lose nothing: `try_from` would add a failure that cannot come.
+// `as` changes a number's type only where it is proved to lose nothing: `from` would say the same, and `try_from` would add a failure that
+// cannot come.
+// A board's calls take no memory, so that none can fail for want of it: what they keep lies in local arrays and in no `Vec` or map.
 #![tactic(auto)]
 
 mod adding;

@@ -38,6 +38,7 @@ fn advance_noted<V: Survey>(
     let statements = &mut *agenda.statements;
     let new = chain_worth(survey, statements, own, s);
     let old = grade_of(statements, s);
+    // `&`, as in `advance`
     let rose = old.at_or_below(new) & !new.at_or_below(old);
     let grade = if rose { new } else { old };
     agenda.take(s, grade);

@@ -60,6 +60,7 @@ impl NumberSet {
     {
         let words = &self.words;
         let k = (q..WORDS).find(|k| words[*k] != 0)?;
+        // `as`: a `usize` has no `From` of a `u32`, and the place is below 64
         Some(64 * k + place_of_lowest(words[k]) as usize)
     }
 
@@ -68,6 +69,7 @@ impl NumberSet {
         ensures { self.new ≡ slice_set self.old q (trimmed (slice_index self.old q)) }
     {
         if q < WORDS {
+            // by index, as in `insert`
             self.words[q] = trim(self.words[q]);
         }
     }

@@ -18,6 +18,7 @@ pub fn insert(words: &mut [u64], i: usize)
 {
     let q = i / 64;
     if q < words.len() {
+        // by index: of the other items no proof knows anything after a `get_mut`
         words[q] |= 1 << (i % 64);
     }
 }

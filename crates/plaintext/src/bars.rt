@@ -19,5 +19,6 @@ fn filled(level: u16, height: u16) -> u32
 pub fn bar(heap: Global, level: u16, height: u16) -> Result<String, AllocError>
     ensures { IfOk result (λ s. string_bytes s ≡ replicate (filled_of level height) 35) }
 {
+    // `as`: a `usize` has no `From` of a `u32`, and no value of one is lost in it
     "#".repeat(heap, filled(level, height) as usize)
 }

@@ -52,6 +52,7 @@ impl Scale for Percent {
     fn blend(self, other: Percent) -> Percent {
         let product = u16::from(self.points()) * u16::from(other.points());
         Percent {
+            // at most 100, since both are: the cast loses nothing
             value: (product / 100) as u8,
         }
     }

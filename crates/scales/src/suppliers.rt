@@ -44,6 +44,7 @@ impl Scale for Suppliers {
     }
 
     fn level(self) -> u16 {
+        // at most 16: the cast loses nothing
         self.members.count_ones() as u16
     }
 

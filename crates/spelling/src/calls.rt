@@ -28,6 +28,7 @@ fn bodies(line: &[u8]) -> Result<[u16; 4], Expected>
     let (b, rest) = body(rest)?;
     let (c, rest) = body(rest)?;
     let (d, rest) = body(rest)?;
+    // a plain choice, as in `end`
     if is_blank(rest) {
         Ok([a, b, c, d])
     } else {

@@ -35,6 +35,7 @@ impl Ramp {
         let left = u32::from(self.far - reading);
         let span = u32::from(self.far - self.near);
         Percent {
+            // at most 100, since `left` is no more than `span`: the cast loses nothing
             value: (100 * left / span) as u8,
         }
     }

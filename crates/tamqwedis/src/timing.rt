@@ -63,6 +63,7 @@ fn fill<G: Written>(desk: &mut Desk<G, Listed<G>>, text: &[u8]) -> Result<(), Fa
 }
 
 fn want_all<G: Written>(desk: &mut Desk<G, Listed<G>>) -> Result<(), Failure> {
+    // after `min` the cast loses nothing
     let count = desk.statements.len().min(1024) as u16;
     for s in 1..=count {
         want(&mut desk.statements, &desk.rules, s).map_err(Failure::Want)?;
@@ -120,6 +121,7 @@ fn time_withdraw<G: Written>(
 ) -> Result<String, Failure> {
     want_all(desk)?;
     finish(&desk.survey, &mut desk.statements, &desk.rules).map_err(Failure::Finish)?;
+    // after `min` the cast loses nothing
     let last = desk.rules.len().min(4096) as u16;
     let mut watch = Stopwatch::new();
     for _turn in 0..turns.get() {

@@ -1,5 +1,6 @@
 // How a board is spelled: `load` reads board text into two lent tables, and `write` spells a board into a lent buffer.
-// `as` changes a number's type only where it is proved to lose nothing; `try_from` would add a failure that cannot come.
+// `as` changes a number's type only where it is proved to lose nothing: `from` would say the same, and `try_from` would add a failure that
+// cannot come.
 #![tactic(auto)]
 
 mod decimal;
