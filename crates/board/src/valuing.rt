@@ -50,7 +50,8 @@ fn front<G: Scale, const N: usize>(statements: &[Statement<G>], rule: &Rule<G>) 
     )
 }
 
-// What the rule says of its head, wherever its bodies stand.
+// What the rule says of its head, wherever its bodies stand. Kept out of `value`, whose straight ways then save no registers for it.
+#[inline(never)]
 fn any_value<G: Scale>(statements: &[Statement<G>], rule: &Rule<G>) -> G
     ensures { result ≡ value_of G.meaning (grades G.meaning statements.now) rule.now }
 {
