@@ -5,7 +5,7 @@ use crate::desks::Desk;
 use crate::dumps::{grades, tables};
 use crate::faults::ScriptError;
 use crate::texts::{Loaded, load_line, write_line};
-use plaintext::{next_word, words};
+use plaintext::{is_blank, next_word, words};
 use scales::{Belief, Percent, Suppliers, Verdict, Written};
 use spelling::{Expected, end, spelled_call};
 use std::alloc::Global;
@@ -47,10 +47,12 @@ pub fn run_line(heap: Global, script: &mut Script, line: &[u8]) -> Result<String
 // The path that a `load` line names.
 pub fn load_path(line: &[u8]) -> Option<&[u8]> {
     let mut words = words(line);
-    match (words.next(), words.next(), words.next()) {
-        (Some(b"load"), path, None) => path,
-        _ => None,
-    }
+    // of a line that is no load, as nearly all are, only the first word is read
+    let Some(b"load") = words.next() else {
+        return None;
+    };
+    let path = words.next()?;
+    is_blank(words.rest()).then_some(path)
 }
 
 // Loads the text of a file into the current board.
