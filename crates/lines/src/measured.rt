@@ -1,6 +1,5 @@
 // Reading a file of measured lines.
-ghost use Rattle.std.specs.Prelude.{◌≡◌, OnOk, length};
-ghost use Rattle.plaintext.specs.Bytes.{lines};
+ghost use Rattle.std.specs.Prelude.{◌≡◌, OnOk};
 ghost use Rattle.lines.specs.declared.measured.ReadError.TheVariants.{NoMemory};
 ghost use Rattle.lines.specs.Measured.{Reads, due as due_after, ends_after as ends_of, fits as fits_after, kind, reading_of, readings_after, shoulders_of};
 
@@ -160,18 +159,13 @@ fn note(readings: &mut Vec<u16>, line: Line) -> Result<(), AllocFailed<u16>>
     }
 }
 
-fn line_count(text: &[u8]) -> usize
-    ensures { result ≡ length (lines text.now) }
-{
-    lines(text).count()
-}
-
 // The ramp that the text spells, or its first fault.
 pub fn read_lines(heap: Global, text: &[u8]) -> Result<Ramp, ReadError>
     ensures { Reads text.now result }
 {
     let mut ends = None;
     let mut readings = Vec::new(heap);
+    let mut behind = 0;
     for (i, bytes) in lines(text).enumerate() {
         let line = classify(bytes);
         if !fits(ends, line) {
@@ -182,10 +176,11 @@ pub fn read_lines(heap: Global, text: &[u8]) -> Result<Ramp, ReadError>
         }
         note(&mut readings, line)?;
         ends = ends_after(ends, line);
+        behind = i + 1;
     }
     let (near, far) = ends.ok_or_else(|| {
         ReadError::Bad(Fault {
-            line: line_count(text) + 1,
+            line: behind + 1,
             expected: Expected::Shoulders,
         })
     })?;
