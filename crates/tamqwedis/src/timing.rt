@@ -62,6 +62,13 @@ fn fill<G: Written>(desk: &mut Desk<G, Listed<G>>, text: &[u8]) -> Result<(), Fa
     Ok(())
 }
 
+// Puts the table back as it was, in the memory that it has.
+fn copy_back<T: Copy>(table: &mut [T], from: &[T]) {
+    if table.len() == from.len() {
+        table.copy_from_slice(from);
+    }
+}
+
 fn want_all<G: Written>(desk: &mut Desk<G, Listed<G>>) -> Result<(), Failure> {
     // after `min` the cast loses nothing
     let count = desk.statements.len().min(1024) as u16;
@@ -71,7 +78,7 @@ fn want_all<G: Written>(desk: &mut Desk<G, Listed<G>>) -> Result<(), Failure> {
     Ok(())
 }
 
-// Finishes the cleared board with all statements wanted. It is no twin of the withdraws: each clones what its call changes, and
+// Finishes the cleared board with all statements wanted. It is no twin of the withdraws: each copies what its call changes, and
 // asks for another answer, so that one function of both would take four closures.
 fn time_finish<G: Written>(
     rt: &HostRuntime,
@@ -81,8 +88,9 @@ fn time_finish<G: Written>(
     want_all(desk)?;
     let mut watch = Stopwatch::new();
     let mut count = 0;
+    let mut statements = desk.statements.clone()?;
     for _turn in 0..turns.get() {
-        let mut statements = desk.statements.clone()?;
+        copy_back(&mut statements, &desk.statements);
         let answer = watch.time(rt, || finish(&desk.survey, &mut statements, &desk.rules))?;
         count = answer.map_err(Failure::Finish)?;
     }
@@ -124,9 +132,11 @@ fn time_withdraw<G: Written>(
     // after `min` the cast loses nothing
     let last = desk.rules.len().min(4096) as u16;
     let mut watch = Stopwatch::new();
+    let mut statements = desk.statements.clone()?;
+    let mut rules = desk.rules.clone()?;
     for _turn in 0..turns.get() {
-        let mut statements = desk.statements.clone()?;
-        let mut rules = desk.rules.clone()?;
+        copy_back(&mut statements, &desk.statements);
+        copy_back(&mut rules, &desk.rules);
         let answer = watch.time(rt, || withdraw(&mut statements, &mut rules, last))?;
         answer.map_err(Failure::Withdraw)?;
     }
