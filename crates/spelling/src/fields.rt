@@ -1,5 +1,6 @@
 // The fields of a script's line.
 ghost use Rattle.std.specs.Prelude.{◌≡◌};
+ghost use Rattle.spelling.specs.Spoken.{expected_text};
 ghost use Rattle.spelling.specs.Fields.{end as end_of, form as form_of, grade as grade_of, number_to_limit, only, reading as reading_of};
 
 use model::Form;
@@ -23,14 +24,12 @@ pub enum Expected {
     NoRamp,
 }
 
-impl fmt::Display for Expected {
-    ghost use Rattle.std.specs.Prelude.{Some};
-    ghost use Rattle.spelling.specs.Spoken.{expected_text};
-
-    ghost output = { λ x. Some (expected_text x) };
-
-    fn fmt<W: fmt::Write>(&self, f: &mut fmt::Formatter<W>) -> fmt::Result {
-        f.write_str(match self {
+impl Expected {
+    // What should have stood there, in words.
+    pub fn words(self) -> &'static str
+        ensures { result.now ≡ expected_text self }
+    {
+        match self {
             Expected::LineEnd => "the end of the line",
             Expected::Number => "a decimal number",
             Expected::Reading => "a number up to 65535",
@@ -44,7 +43,18 @@ impl fmt::Display for Expected {
             Expected::ScaleName => "a scale: percent, verdict, suppliers or belief",
             Expected::SurveyPart => "`listed`, `ramp` or the end of the line",
             Expected::NoRamp => "no ramp, since only percent has one",
-        })
+        }
+    }
+}
+
+impl fmt::Display for Expected {
+    ghost use Rattle.std.specs.Prelude.{Some};
+    ghost use Rattle.spelling.specs.Spoken.{expected_text};
+
+    ghost output = { λ x. Some (expected_text x) };
+
+    fn fmt<W: fmt::Write>(&self, f: &mut fmt::Formatter<W>) -> fmt::Result {
+        f.write_str(self.words())
     }
 }
 
